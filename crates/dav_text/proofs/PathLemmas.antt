@@ -1,0 +1,157 @@
+-- What the text of a path is made of.
+use Rattle.std.proofs.Common.{◌≡◌, ℕ, zero, suc, ◌+◌, ◌<◌, ◌≤◌, Bool, true, false, not, ◌&&◌, ◌||◌, if◌then◌else◌, eqb, leb, Some, None, List, [], ◌∷◌, ◌++◌, length, get_or, take, inl, inr, refl, sym, ap, subst, ◌∙◌, arith, lit<, IsAscii}
+use Rattle.std.specs.Char.{is_ascii_alphanumeric}
+use Rattle.std.specs.List.{list_all}
+use Rattle.std.proofs.Math.Seq.{take-append_seam}
+use Rattle.std.proofs.lemmas.Bool.{and_parts, and_from, cases_Bool, cases_lt, cond-true, cond-false, eqb-true, eq-eqb, leb-true, le-leb}
+use Rattle.std.proofs.lemmas.Bool.Decides.{nat_tests}
+use Rattle.std.proofs.lemmas.List.{take_more, take-take, append-nil, append_assoc, length-append}
+use Rattle.std.proofs.lemmas.List.Elements.{All-weaker}
+use Rattle.std.proofs.lemmas.List.Sums.{AllPass-from_list_all, list_all-from_AllPass}
+use Rattle.std.proofs.lemmas.Str.{IsAscii-append}
+use Rattle.std.proofs.lemmas.Str.Ascii.{IsAscii-nil, IsAscii-cons}
+use Rattle.percent_encoding.specs.declared.ascii_set.AsciiSet.{AsciiSet}
+use Rattle.percent_encoding.specs.AsciiSet.{should_percent_encode}
+use Rattle.percent_encoding.specs.Percent.{IsKept, percent_encode, percent_encode_byte}
+use Rattle.percent_encoding.proofs.PercentLemmas.{percent_encode-nil, percent_encode-append, percent_encode_escaped, percent_encode_kept, percent_encode_unchanged, IsAscii-percent_encode}
+use Rattle.dav_text.specs.declared.sets.TheConstants.{ESCAPED}
+use Rattle.dav_text.specs.Path.{PathParts, IsName, IsEarlyPath, is_name, one_segment, path_of, is_unreserved, escaped_segments, escaped_parts, escaped, BeginsWith}
+
+-- what begins with a list begins with the list's front
+pub BeginsWith-front : (old more new : List ℕ) → BeginsWith (old ++ more) new → BeginsWith old new
+BeginsWith-front old more new h =
+    let within : length old ≤ length (old ++ more) = omega (arith, length-append {A = ℕ}) in
+    sym (take-take (length old) (length (old ++ more)) new within) ∙ ap (take (length old)) h ∙ take-append_seam old more
+
+-- a piece more, where the list so far is what was there and a front
+pub grown : (old front piece more mid new : List ℕ) → mid ≡ old ++ front → new ≡ mid ++ piece → more ≡ front ++ piece → new ≡ old ++ more
+grown old front piece more mid new e f g = f ∙ ap (λ x. x ++ piece) e ∙ append_assoc old front piece ∙ ap (λ x. old ++ x) (sym g)
+
+-- one more byte, which is escaped
+pub percent_encode_escaped_more : (set : AsciiSet) (bs : List ℕ) (i : ℕ) → i < length bs → should_percent_encode set (get_or bs i 0) ≡ true → percent_encode set (take (i + 1) bs) ≡ percent_encode set (take i bs) ++ percent_encode_byte (get_or bs i 0)
+percent_encode_escaped_more set bs i within escapes =
+    let b = get_or bs i 0 in
+    ap (percent_encode set) (take_more bs i 0 within) ∙ percent_encode-append set (take i bs) (b ∷ []) ∙ ap (λ x. percent_encode set (take i bs) ++ x) (percent_encode_escaped set b [] escapes ∙ ap (λ x. percent_encode_byte b ++ x) (percent_encode-nil set) ∙ append-nil (percent_encode_byte b))
+
+-- one more byte, which is kept
+pub percent_encode_kept_more : (set : AsciiSet) (bs : List ℕ) (i : ℕ) → i < length bs → should_percent_encode set (get_or bs i 0) ≡ false → percent_encode set (take (i + 1) bs) ≡ percent_encode set (take i bs) ++ get_or bs i 0 ∷ []
+percent_encode_kept_more set bs i within kept =
+    let b = get_or bs i 0 in
+    ap (percent_encode set) (take_more bs i 0 within) ∙ percent_encode-append set (take i bs) (b ∷ []) ∙ ap (λ x. percent_encode set (take i bs) ++ x) (percent_encode_kept set b [] kept ∙ ap (λ x. b ∷ x) (percent_encode-nil set))
+
+pub escaped_segments-append : (xs ys : List (List ℕ)) → escaped_segments (xs ++ ys) ≡ escaped_segments xs ++ escaped_segments ys
+escaped_segments-append [] ys = refl
+escaped_segments-append (x ∷ xs) ys =
+    ap (λ t. 47 ∷ percent_encode ESCAPED x ++ t) (escaped_segments-append xs ys) ∙ sym (append_assoc (47 ∷ percent_encode ESCAPED x) (escaped_segments xs) (escaped_segments ys))
+
+-- one more segment
+pub escaped_segments_more : (segments : List (List ℕ)) (i : ℕ) (d : List ℕ) → i < length segments → escaped_segments (take (i + 1) segments) ≡ escaped_segments (take i segments) ++ (47 ∷ percent_encode ESCAPED (get_or segments i d))
+escaped_segments_more segments i d within =
+    ap escaped_segments (take_more segments i d within) ∙ escaped_segments-append (take i segments) (get_or segments i d ∷ []) ∙ ap (λ t. escaped_segments (take i segments) ++ t) (append-nil (47 ∷ percent_encode ESCAPED (get_or segments i d)))
+
+-- whether a test holds of each number below
+unfoldable passes_below : (ℕ → Bool) → ℕ → Bool
+passes_below p zero = true
+passes_below p (suc n) = p n && passes_below p n
+
+passes_below-at : (p : ℕ → Bool) (n b : ℕ) → passes_below p n ≡ true → b < n → p b ≡ true
+unfolding passes_below
+passes_below-at p zero b all within = absurd (omega arith)
+passes_below-at p (suc n) b all within =
+    let parts = and_parts (p n) (passes_below p n) all in
+    elim (cases_lt b n) [
+      | inl below ↦ passes_below-at p n b parts.1 below
+      | inr last ↦ let same : b ≡ n = omega arith in ap p same ∙ parts.0
+    ]
+
+same_truth : Bool → Bool → Bool
+same_truth x y = if x then y else not y
+
+same-from_truth : (x y : Bool) → same_truth x y ≡ true → x ≡ y
+unfolding same_truth
+same-from_truth true true e = refl
+same-from_truth true false e = cc
+same-from_truth false true e = cc
+same-from_truth false false e = refl
+
+agreed : passes_below (λ b. same_truth (should_percent_encode ESCAPED b) (not (is_unreserved b))) 128 ≡ true
+unfolding passes_below same_truth should_percent_encode
+agreed = refl
+
+-- every byte but the unreserved ones is escaped
+pub escapes-unless-unreserved : (b : ℕ) → should_percent_encode ESCAPED b ≡ not (is_unreserved b)
+unfolding should_percent_encode
+escapes-unless-unreserved b =
+    elim (cases_lt b 128) [
+      | inl ascii ↦ same-from_truth _ _ (passes_below-at (λ x. same_truth (should_percent_encode ESCAPED x) (not (is_unreserved x))) 128 b agreed ascii)
+      | inr beyond ↦ grind (arith, nat_tests)
+    ]
+
+not_or_true : (a w x y z : Bool) → a ≡ true → not (a || w || x || y || z) ≡ false
+not_or_true true w x y z e = refl
+not_or_true false w x y z e = cc
+
+-- a letter or a digit stands for itself
+kept-alphanumeric : (b : ℕ) → is_ascii_alphanumeric b ≡ true → should_percent_encode ESCAPED b ≡ false
+kept-alphanumeric b letter = escapes-unless-unreserved b ∙ not_or_true (is_ascii_alphanumeric b) _ _ _ _ letter
+
+-- a name stands for itself
+pub percent_encode-name : (name : List ℕ) → IsName name → percent_encode ESCAPED name ≡ name
+percent_encode-name name named =
+    percent_encode_unchanged ESCAPED name (All-weaker (λ b. is_ascii_alphanumeric b ≡ true) (IsKept ESCAPED) kept-alphanumeric name named.2)
+
+IsName-from_is_name : (name : List ℕ) → is_name name ≡ true → IsName name
+IsName-from_is_name name test =
+    let parts = and_parts (leb 1 (length name) && leb (length name) 64) (list_all is_ascii_alphanumeric name) test in
+    let sizes = and_parts (leb 1 (length name)) (leb (length name) 64) parts.0 in
+    (leb-true 1 (length name) sizes.0, leb-true (length name) 64 sizes.1, AllPass-from_list_all is_ascii_alphanumeric name parts.1)
+
+is_name-from_IsName : (name : List ℕ) → IsName name → is_name name ≡ true
+is_name-from_IsName name named =
+    and_from _ _ (and_from _ _ (le-leb 1 (length name) named.0) (le-leb (length name) 64 named.1)) (list_all-from_AllPass is_ascii_alphanumeric name named.2)
+
+-- a text is a path only if it is a slash and a name
+pub IsEarlyPath-from_path_of : (text : List ℕ) (path : PathParts) → path_of text ≡ Some path → (name : List ℕ) × IsEarlyPath text name × (path ≡ one_segment name)
+IsEarlyPath-from_path_of [] path found = cc
+IsEarlyPath-from_path_of (first ∷ name) path found =
+    elim (cases_Bool (eqb first 47 && is_name name)) [
+      | inl passed ↦
+          let parts = and_parts (eqb first 47) (is_name name) passed in
+          let only : Some (one_segment name) ≡ Some path = sym (cond-true _ _ _ passed) ∙ found in
+          (name, record { rooted = ap (λ b. b ∷ name) (eqb-true first 47 parts.0); named = IsName-from_is_name name parts.1 }, cc)
+      | inr failed ↦
+          let none : None ≡ Some path = sym (cond-false _ _ _ failed) ∙ found in
+          cc
+    ]
+
+-- a slash and a name are a path
+pub path_of-IsEarlyPath : (text name : List ℕ) → IsEarlyPath text name → path_of text ≡ Some (one_segment name)
+path_of-IsEarlyPath text name early =
+    ap path_of early.rooted ∙ cond-true (eqb 47 47 && is_name name) _ _ (and_from _ _ (eq-eqb 47 47 refl) (is_name-from_IsName name early.named))
+
+-- a path that was read is written as it was read
+pub escaped-path_of : (text : List ℕ) (path : PathParts) → path_of text ≡ Some path → escaped path ≡ text
+escaped-path_of text path found =
+    let early = IsEarlyPath-from_path_of text path found in
+    let name = early.0 in
+    ap escaped early.2 ∙ append-nil (escaped_segments (name ∷ [])) ∙ append-nil (47 ∷ percent_encode ESCAPED name) ∙ ap (λ x. 47 ∷ x) (percent_encode-name name early.1.named) ∙ sym early.1.rooted
+
+IsAscii-escaped_segments : (segments : List (List ℕ)) → IsAscii (escaped_segments segments)
+IsAscii-escaped_segments [] = IsAscii-nil
+IsAscii-escaped_segments (segment ∷ segments) =
+    IsAscii-append (47 ∷ percent_encode ESCAPED segment) (escaped_segments segments) (IsAscii-cons 47 _ (lit< tt) (IsAscii-percent_encode ESCAPED segment)) (IsAscii-escaped_segments segments)
+
+IsAscii-escaped_parts : (segments : List (List ℕ)) (slash : Bool) → IsAscii (escaped_parts segments slash)
+IsAscii-escaped_parts [] slash = IsAscii-cons 47 [] (lit< tt) IsAscii-nil
+IsAscii-escaped_parts (segment ∷ segments) true =
+    IsAscii-append (escaped_segments (segment ∷ segments)) (47 ∷ []) (IsAscii-escaped_segments (segment ∷ segments)) (IsAscii-cons 47 [] (lit< tt) IsAscii-nil)
+IsAscii-escaped_parts (segment ∷ segments) false =
+    IsAscii-append (escaped_segments (segment ∷ segments)) [] (IsAscii-escaped_segments (segment ∷ segments)) IsAscii-nil
+
+-- the text of any path is ASCII
+pub IsAscii-escaped : (path : PathParts) → IsAscii (escaped path)
+IsAscii-escaped path = IsAscii-escaped_parts path.segments path.slash
+
+-- a text that is a path is ASCII
+pub IsAscii-path_of : (text : List ℕ) (path : PathParts) → path_of text ≡ Some path → IsAscii text
+IsAscii-path_of text path found = subst IsAscii (escaped-path_of text path found) (IsAscii-escaped path)
