@@ -1,0 +1,11 @@
+pub mod FeedLemmas
+pub mod KeepLemmas
+pub mod BodyLemmas
+pub mod HeadLemmas
+pub mod OutcomeLemmas
+pub mod PlaceLemmas
+pub mod ReadingLemmas
+pub mod FieldLemmas
+pub mod PutLemmas
+pub mod RequestLemmas
+pub mod RunLemmas
