@@ -1,1 +1,5 @@
+pub mod Connecting
+pub mod Pieces
 pub mod Sending
+pub mod Taking
+pub mod Written

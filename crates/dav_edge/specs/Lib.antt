@@ -1,3 +1,9 @@
 pub mod Connections
 pub mod Device
+pub mod MemConnection
+pub mod Memory
+pub mod Note
+pub mod History
+pub mod Schedule
+pub mod Stream
 pub mod Whole
