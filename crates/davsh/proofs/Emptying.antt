@@ -1,0 +1,230 @@
+-- What the drain does to the files of the queue: each stays queued, or it was sent whole and the server took it.
+use Rattle.std.proofs.Common.{◌≡◌, ◌⊎◌, inl, inr, ℕ, List, [], ◌∷◌, ◌++◌, Option, Some, None, Result, Ok, Err, Bool, true, false, if◌then◌else◌, Contains, lit<, refl, sym, ◌∙◌, ap, subst}
+use Rattle.std.proofs.lemmas.List.Elements.{Contains-append_left, Contains-append_right}
+use Rattle.dav_machine.specs.Devices.{one_device}
+use Rattle.dav_machine.specs.Machine.{Run, run_with, prepend, give}
+use Rattle.dav_edge.specs.Device.{Answer, Happened}
+use Rattle.dav_edge.specs.Connections.{Connection, connection, Connections, with_standing, none_yet, all_of, after_calls, connections_of}
+use Rattle.dav_edge.proofs.Connecting.{after_calls-append, begins_and_last, ended_after_calls}
+use Rattle.dav_text.specs.Path.{PathParts}
+use Rattle.dav_text.specs.declared.memory.Memory.{Memory}
+use Rattle.dav_text.specs.declared.method.Method.TheVariants.{Put}
+use Rattle.dav_frame.specs.declared.reader.Reply.{Reply}
+use Rattle.dav_frame.specs.Framing.{Framing, Gives as GivesReply}
+use Rattle.dav_desk.specs.Table.{Table, IsWithin, IsQueued, IsInFlight}
+use Rattle.dav_desk.specs.After.{after}
+use Rattle.dav_desk.specs.declared.answer.Answer.{Answer as DeskAnswer}
+use Rattle.dav_desk.specs.declared.answer.Answer.TheVariants.{Took, Settled}
+use Rattle.dav_desk.specs.declared.answer.Job.{Job}
+use Rattle.dav_desk.specs.declared.ask.Ask.TheVariants.{Settle}
+use Rattle.dav_desk.specs.declared.ask.Done.{Done}
+use Rattle.dav_desk.specs.declared.ask.Done.TheVariants as done
+use Rattle.dav_desk.proofs.Laws.{take_is_within, take_keeps_queued, take_loses_nothing, take_puts_in_flight, settle_is_within, sent_keeps_others, sent_loses_nothing, again_ends_flight_alone}
+use Rattle.davsh.specs.Exchange.{Heard, Uploads, sends, memory as no_memory, Exchanges, put_text, is_success}
+use Rattle.davsh.specs.Drain.{Drains, Turn, Starved, idle, memory, starved, turn, done_of}
+use Rattle.davsh.specs.Kept.{WasPut}
+use Rattle.davsh.proofs.Putting.{Answered, exchange_replied}
+
+abbrev HeardRun : Type 0
+HeardRun = Run (List Happened) (List Answer) Heard
+
+abbrev DrainRun : Type 0
+DrainRun = Run (List Happened) (List Answer) (Bool × Table)
+
+-- whatever connections there were before, one that ended among these calls was sent the request and answered
+pub record Put1 (host : List ℕ) (path : PathParts) (bytes : List ℕ) (events : List Happened) : Type 0 where
+  pub connection : Connection
+  pub ended : (cs : Connections) → Contains (after_calls cs events).ended connection
+  pub to_host : connection.host ≡ host
+  pub to_port : connection.port ≡ 80
+  pub named : PathParts
+  pub same : named.segments ≡ path.segments
+  pub sent : connection.sent ≡ put_text host named bytes
+  pub reply : Reply
+  pub rest : List ℕ
+  pub received : Framing Put connection.received (GivesReply reply rest)
+  pub success : is_success reply.status ≡ true
+
+pub put_first : (host : List ℕ) (path : PathParts) (bytes : List ℕ) (es fs : List Happened) → Put1 host path bytes es → Put1 host path bytes (es ++ fs)
+put_first host path bytes es fs one = record {
+  connection = one.connection;
+  ended = λ cs.
+      let begins = ended_after_calls (after_calls cs es) fs in
+      subst (λ (k : Connections). Contains k.ended one.connection) (sym (after_calls-append cs es fs))
+      (subst (λ (l : List Connection). Contains l one.connection) (sym begins.1) (Contains-append_left (after_calls cs es).ended begins.0 one.connection (one.ended cs)));
+  to_host = one.to_host;
+  to_port = one.to_port;
+  named = one.named;
+  same = one.same;
+  sent = one.sent;
+  reply = one.reply;
+  rest = one.rest;
+  received = one.received;
+  success = one.success;
+}
+
+put_later : (host : List ℕ) (path : PathParts) (bytes : List ℕ) (es fs : List Happened) → Put1 host path bytes fs → Put1 host path bytes (es ++ fs)
+put_later host path bytes es fs one = record {
+  connection = one.connection;
+  ended = λ cs. subst (λ (k : Connections). Contains k.ended one.connection) (sym (after_calls-append cs es fs)) (one.ended (after_calls cs es));
+  to_host = one.to_host;
+  to_port = one.to_port;
+  named = one.named;
+  same = one.same;
+  sent = one.sent;
+  reply = one.reply;
+  rest = one.rest;
+  received = one.received;
+  success = one.success;
+}
+
+-- a reply of success to the file's request
+put_answered : (host : List ℕ) (path : PathParts) (bytes : List ℕ) (named : PathParts) (status : ℕ) (events : List Happened) → named.segments ≡ path.segments
+    → Answered host (put_text host named bytes) status events → is_success status ≡ true → Put1 host path bytes events
+put_answered host path bytes named status events same answered success =
+    let c = connection host 80 (put_text host named bytes) answered.received in record {
+      connection = c;
+      ended = λ cs. subst (λ (k : Connections). Contains k.ended c) (sym (answered.makes cs)) (Contains-append_right (all_of cs) (c ∷ []) c (0, lit< tt, refl));
+      to_host = refl;
+      to_port = refl;
+      named = named;
+      same = same;
+      sent = refl;
+      reply = answered.reply;
+      rest = answered.rest;
+      received = answered.framing;
+      success = ap is_success answered.is ∙ success;
+    }
+
+-- each file of the queue stays there, or was sent
+record Empties (host : List ℕ) (before now : Table) (events : List Happened) : Type 0 where
+  within : IsWithin now
+  lost : now.lost ≡ before.lost
+  each : (path : PathParts) (bytes : List ℕ) → IsQueued before path bytes → IsQueued now path bytes ⊎ Put1 host path bytes events
+
+empties_same : (host : List ℕ) (t : Table) (events : List Happened) → IsWithin t → Empties host t t events
+empties_same host t events within = record { within = within; lost = refl; each = λ path bytes queued. inl queued }
+
+-- a job that ended as this, where something may have been heard
+settled_by : (host : List ℕ) (taken now : Table) (job : Job) (a : DeskAnswer) (events : List Happened) (d : Done) → IsWithin taken → IsInFlight taken job → after taken (Settle job.number d) ≡ (now, Ok a)
+    → (d ≡ done.Refused → ⊥) → (d ≡ done.Sent → Put1 host job.path job.bytes events) → Empties host taken now events
+settled_by host taken now job a events done.Sent within flight settles other put = record {
+  within = settle_is_within taken job.number done.Sent now a within settles;
+  lost = sent_loses_nothing taken job.number now a settles;
+  each = λ path bytes queued. elim (sent_keeps_others taken job now a flight settles path bytes queued) [
+    | inl stays ↦ inl stays
+    | inr is ↦
+        let one = put refl in
+        inr (record {
+          connection = one.connection;
+          ended = one.ended;
+          to_host = one.to_host;
+          to_port = one.to_port;
+          named = one.named;
+          same = one.same ∙ is.0;
+          sent = one.sent ∙ ap (put_text host one.named) is.1;
+          reply = one.reply;
+          rest = one.rest;
+          received = one.received;
+          success = one.success;
+        })
+  ];
+}
+settled_by host taken now job a events done.Again within flight settles other put =
+    let is = again_ends_flight_alone taken job.number now a settles in record {
+      within = settle_is_within taken job.number done.Again now a within settles;
+      lost = ap (λ (t : Table). t.lost) is;
+      each = λ path bytes queued. inl (subst (λ (t : Table). IsQueued t path bytes) (sym is) queued);
+    }
+settled_by host taken now job a events done.Refused within flight settles other put = absurd (other refl)
+
+not_refused_by : (success : Bool) → (if success then done.Sent else done.Again) ≡ done.Refused → ⊥
+not_refused_by true is = cc
+not_refused_by false is = cc
+
+not_refused : (came : Option ℕ) → done_of came ≡ done.Refused → ⊥
+not_refused None is = cc
+not_refused (Some status) is = not_refused_by (is_success status) is
+
+success_by : (success : Bool) → (if success then done.Sent else done.Again) ≡ done.Sent → success ≡ true
+success_by true is = refl
+success_by false is = cc
+
+put_by : (host : List ℕ) (path : PathParts) (bytes : List ℕ) (answers : List Answer) (sent : HeardRun) (came : Option ℕ) → Uploads host path bytes answers sent → sent.result ≡ Ok came → done_of came ≡ done.Sent → Put1 host path bytes sent.made
+put_by host path bytes answers sent None (sends exchange) heard is = cc
+put_by host path bytes answers sent (Some status) (sends exchange) heard is =
+    put_answered host path bytes path status sent.made refl (exchange_replied host (put_text host path bytes) status answers sent exchange heard) (success_by (is_success status) is)
+put_by host path bytes answers sent came (no_memory want gives) heard is =
+    let h : Err want ≡ Ok came = sym (ap (λ (r : HeardRun). r.result) gives) ∙ heard in cc
+
+empties_turn : (host : List ℕ) (before now : Table) (answers : List Answer) (sent : HeardRun) → IsWithin before → Turn host before answers now sent → Empties host before now sent.made
+empties_turn host before now answers sent within t =
+    let job = t.job in
+    let settled = settled_by host t.taken now job (Settled t.fated) sent.made (done_of t.came) (take_is_within before t.taken job within t.takes)
+    (take_puts_in_flight before t.taken job within t.takes) t.settles (not_refused t.came)
+    (put_by host job.path job.bytes answers sent t.came t.uploads t.heard) in record {
+      within = settled.within;
+      lost = settled.lost ∙ take_loses_nothing before t.taken job t.takes;
+      each = λ path bytes queued. settled.each path bytes (take_keeps_queued before t.taken job t.takes path bytes queued);
+    }
+
+empties_then : (host : List ℕ) (a b c : Table) (es fs : List Happened) → Empties host a b es → Empties host b c fs → Empties host a c (es ++ fs)
+empties_then host a b c es fs one two = record {
+  within = two.within;
+  lost = two.lost ∙ one.lost;
+  each = λ path bytes queued. elim (one.each path bytes queued) [
+    | inl stays ↦ elim (two.each path bytes stays) [
+      | inl still ↦ inl still
+      | inr later ↦ inr (put_later host path bytes es fs later)
+    ]
+    | inr first ↦ inr (put_first host path bytes es fs first)
+  ];
+}
+
+empties_starved : (host : List ℕ) (before now : Table) (answers : List Answer) (sent : HeardRun) → IsWithin before → Starved host before answers now sent → Empties host before now sent.made
+empties_starved host before now answers sent within s = record {
+  within = take_is_within before now s.job within s.takes;
+  lost = take_loses_nothing before now s.job s.takes;
+  each = λ path bytes queued. inl (take_keeps_queued before now s.job s.takes path bytes queued);
+}
+
+as_run : (host : List ℕ) (before now : Table) (went : Bool) (made : List Happened) (left : List Answer) (run : DrainRun) → run ≡ run_with (went, now) made left → Empties host before now made → Empties host before run.result.1 run.made
+as_run host before now went made left run is one = subst (λ (r : DrainRun). Empties host before r.result.1 r.made) (sym is) one
+
+empties : (host : List ℕ) (before : Table) (answers : List Answer) (run : DrainRun) → IsWithin before → Drains host before answers run → Empties host before run.result.1 run.made
+empties host before answers run within (idle t a r none gives) = as_run host t t true [] a r gives (empties_same host t [] within)
+empties host before answers run within (memory t a r gives) = as_run host t t false [] a r gives (empties_same host t [] within)
+empties host before answers run within (starved t a r now sent s is) = as_run host t now false sent.made sent.left r is (empties_starved host t now a sent within s)
+empties host before answers run within (turn t a r now sent rest one more is) =
+    let first = empties_turn host t now a sent within one in
+    let later = empties host now sent.left rest first.within more in
+    subst (λ (q : DrainRun). Empties host t q.result.1 q.made) (sym is) (empties_then host t now rest.result.1 sent.made rest.made first later)
+
+contains_all : (cs : Connections) (c : Connection) → Contains cs.ended c → Contains (all_of cs) c
+contains_all cs c holds =
+    let begins = begins_and_last cs.ended cs.standing in
+    subst (λ (l : List Connection). Contains l c) (sym begins.1) (Contains-append_left cs.ended begins.0 c holds)
+
+pub was_put : (host : List ℕ) (path : PathParts) (bytes : List ℕ) (events : List Happened) → Put1 host path bytes events → WasPut host path bytes events
+was_put host path bytes events one = record {
+  connection = one.connection;
+  among = contains_all (after_calls none_yet events) one.connection (one.ended none_yet);
+  to_host = one.to_host;
+  to_port = one.to_port;
+  named = one.named;
+  same = one.same;
+  sent = one.sent;
+  reply = one.reply;
+  rest = one.rest;
+  received = one.received;
+  success = one.success;
+}
+
+-- what a drain leaves of the queue
+pub record Drained (host : List ℕ) (before now : Table) (events : List Happened) : Type 0 where
+  pub lost : now.lost ≡ before.lost
+  pub each : (path : PathParts) (bytes : List ℕ) → IsQueued before path bytes → IsQueued now path bytes ⊎ Put1 host path bytes events
+
+pub drained : (host : List ℕ) (before : Table) (answers : List Answer) (run : DrainRun) → IsWithin before → Drains host before answers run → Drained host before run.result.1 run.made
+drained host before answers run within does =
+    let all = empties host before answers run within does in record { lost = all.lost; each = all.each }

@@ -1,0 +1,144 @@
+-- What each call does to the machines of an exchange.
+use Rattle.std.proofs.Common.{◌≡◌, ◌≢◌, ◌<◌, ◌≤◌, inl, inr, ℕ, List, [], ◌∷◌, ◌++◌, length, take, drop, Option, Some, None, Result, Ok, Err, Bool, true, false, is_ok, refl, sym, ◌∙◌, ap, subst, arith, append_assoc, append-nil, length-take}
+use Rattle.std.proofs.lemmas.List.{drop_all}
+use Rattle.dav_machine.specs.Devices.{one_device}
+use Rattle.dav_machine.specs.Machine.{Run, give, Calls, and_then}
+use Rattle.dav_machine.proofs.Logs.{grows_same}
+use Rattle.dav_machine.proofs.Reaching.{reaches_next, reaches_as, as_reaches}
+use Rattle.dav_edge.specs.declared.failed.Failed.{Failed}
+use Rattle.dav_edge.specs.Device.{Connect, Receive, Fails, Goes, Gives, Answer, Happened, happened, connected, received, shut_down, DeviceLog, Grew, ByteMachine, is_failure}
+use Rattle.dav_edge.specs.Whole.{ReachesOn, DoesOn, Sends}
+use Rattle.dav_edge.proofs.Sending.{on_same, on_then, on_call}
+use Rattle.dav_text.specs.declared.memory.Memory.{Memory}
+use Rattle.dav_text.specs.declared.method.Method.TheVariants.{Put}
+use Rattle.dav_text.specs.Path.{PathParts}
+use Rattle.dav_frame.specs.declared.fault.FrameFault.{FrameFault}
+use Rattle.dav_frame.specs.declared.fault.FrameFault.TheVariants as faults
+use Rattle.dav_frame.specs.declared.phase.Phase.{Phase}
+use Rattle.dav_frame.specs.declared.phase.Phase.TheVariants as phases
+use Rattle.dav_frame.specs.declared.reader.Reply.{Reply}
+use Rattle.dav_frame.specs.Framing.{Outcome, Framing, Gives as GivesReply, Faults, Short}
+use Rattle.dav_frame.specs.Reading.{FromPhase, Leads, IsWhole}
+use Rattle.davsh.specs.Exchange.{Heard, IsHeardOf, Judged, whole, broken, short, memory, Hears, hears_if, Talks, Shuts, Exchanges, Uploads, put_text}
+use Rattle.davsh.specs.Exchange.{sends as sends_file, memory as no_memory}
+
+-- a reader that began with so much of a stream
+abbrev pub ReadsFrom : List ℕ → Phase → Type 0
+ReadsFrom so_far phase = (more : List ℕ) (outcome : Outcome) → FromPhase phase more outcome → Framing Put (so_far ++ more) outcome
+
+-- the piece was taken whole
+pub reads_on : (so_far piece : List ℕ) (old new : Phase) (used : ℕ) → ReadsFrom so_far old → Leads old piece new (drop used piece) → used ≡ length piece → ReadsFrom (so_far ++ piece) new
+reads_on so_far piece old new used from leads all more outcome here =
+    let none : drop used piece ≡ [] = drop_all used piece (omega arith) in
+    subst (λ (l : List ℕ). Framing Put l outcome) (sym (append_assoc so_far piece more))
+    (from (piece ++ more) outcome (leads more outcome (subst (λ (l : List ℕ). FromPhase new (l ++ more) outcome) (sym none) here)))
+
+pub reads_short : (so_far piece : List ℕ) (old new : Phase) (used : ℕ) → ReadsFrom so_far old → Leads old piece new (drop used piece) → used ≡ length piece → FromPhase new [] Short → Framing Put (so_far ++ piece) Short
+reads_short so_far piece old new used from leads all here =
+    subst (λ (l : List ℕ). Framing Put l Short) (append-nil (so_far ++ piece)) (reads_on so_far piece old new used from leads all [] Short here)
+
+pub reads_fault : (so_far piece : List ℕ) (old : Phase) (fault : FrameFault) → ReadsFrom so_far old → ((more : List ℕ) → FromPhase old (piece ++ more) (Faults fault)) → Framing Put (so_far ++ piece) (Faults fault)
+reads_fault so_far piece old fault from faults =
+    subst (λ (l : List ℕ). Framing Put (so_far ++ l) (Faults fault)) (append-nil piece) (from (piece ++ []) (Faults fault) (faults []))
+
+whole_with : (phase : Phase) (reply : Reply) (rest : List ℕ) → IsWhole phase → FromPhase phase [] (GivesReply reply []) → FromPhase phase rest (GivesReply reply rest)
+whole_with (phases.AtHead method kept) reply rest is from = absurd is
+whole_with (phases.InBody status head body need) reply rest is from = absurd is
+whole_with (phases.Whole status head body) reply rest is from = cc
+whole_with (phases.Failed fault) reply rest is from = absurd is
+
+pub reads_whole : (so_far piece : List ℕ) (old new : Phase) (used : ℕ) (reply : Reply) → ReadsFrom so_far old → Leads old piece new (drop used piece) → IsWhole new → FromPhase new [] (GivesReply reply [])
+    → Framing Put (so_far ++ piece) (GivesReply reply (drop used piece))
+reads_whole so_far piece old new used reply from leads is here =
+    let left = drop used piece in
+    let there : FromPhase new (left ++ []) (GivesReply reply left) = subst (λ (l : List ℕ). FromPhase new l (GivesReply reply left)) (sym (append-nil left)) (whole_with new reply left is here) in
+    subst (λ (l : List ℕ). Framing Put (so_far ++ l) (GivesReply reply left)) (append-nil piece) (from (piece ++ []) (GivesReply reply left) (leads [] (GivesReply reply left) there))
+
+hears_given : (a b : DeviceLog) (so_far piece : List ℕ) (g : ByteMachine Heard) → 0 < length piece → Grew a b (happened (Receive 4096) (Gives piece) ∷ [])
+    → ((left : List Answer) (run : Run (List Happened) (List Answer) Heard) → g left run → Judged (so_far ++ piece) (Hears (so_far ++ piece) left) left run) → ReachesOn a b (Hears so_far) g
+unfolding Hears
+hears_given a b so_far [] g some grew judged = absurd (omega arith)
+hears_given a b so_far (x ∷ xs) g some grew judged =
+    on_call a b (Hears so_far) g (happened (Receive 4096) (Gives (x ∷ xs))) grew
+    (λ more run does. record { rest = does.rest; does = judged more does.rest does.does; is = does.is })
+
+-- a piece came, and the bytes so far are judged
+pub hears_piece : (a b : DeviceLog) (so_far buf : List ℕ) (room n : ℕ) (g : ByteMachine Heard) → room ≡ 4096 → (n ≡ 0 → ⊥) → n ≤ length buf → Grew a b (received room buf (Ok n) ∷ [])
+    → ((left : List Answer) (run : Run (List Happened) (List Answer) Heard) → g left run → Judged (so_far ++ take n buf) (Hears (so_far ++ take n buf) left) left run) → ReachesOn a b (Hears so_far) g
+hears_piece a b so_far buf room n g is some fits grew judged =
+    hears_given a b so_far (take n buf) g (simp length-take (omega arith)) (subst (λ (r : ℕ). Grew a b (happened (Receive r) (Gives (take n buf)) ∷ [])) is grew) judged
+
+pub hears_short : (a b : DeviceLog) (so_far buf : List ℕ) (room n : ℕ) → room ≡ 4096 → (n ≡ 0 → ⊥) → n ≤ length buf → Grew a b (received room buf (Ok n) ∷ [])
+    → Framing Put (so_far ++ take n buf) Short → ReachesOn a b (Hears so_far) (Hears (so_far ++ take n buf))
+hears_short a b so_far buf room n is some fits grew framing =
+    hears_piece a b so_far buf room n (Hears (so_far ++ take n buf)) is some fits grew (λ left run does. short framing does)
+
+pub hears_whole : (a b : DeviceLog) (so_far buf : List ℕ) (room n : ℕ) (reply : Reply) (rest : List ℕ) (heard : Heard) → room ≡ 4096 → (n ≡ 0 → ⊥) → n ≤ length buf → Grew a b (received room buf (Ok n) ∷ [])
+    → Framing Put (so_far ++ take n buf) (GivesReply reply rest) → heard ≡ Ok (Some reply.status) → DoesOn a b (Hears so_far) heard
+hears_whole a b so_far buf room n reply rest heard is some fits grew framing gives =
+    subst (λ (h : Heard). DoesOn a b (Hears so_far) h) (sym gives)
+    (hears_piece a b so_far buf room n (give one_device (Ok (Some reply.status))) is some fits grew (λ left run does. whole reply rest framing does))
+
+pub hears_broken : (a b : DeviceLog) (so_far buf : List ℕ) (room n : ℕ) (fault : FrameFault) → room ≡ 4096 → (n ≡ 0 → ⊥) → n ≤ length buf → Grew a b (received room buf (Ok n) ∷ [])
+    → Framing Put (so_far ++ take n buf) (Faults fault) → DoesOn a b (Hears so_far) (Ok None)
+hears_broken a b so_far buf room n fault is some fits grew framing =
+    hears_piece a b so_far buf room n (give one_device (Ok None)) is some fits grew (λ left run does. broken fault framing does)
+
+pub hears_starved : (a b : DeviceLog) (so_far buf : List ℕ) (room n : ℕ) (want : Memory) → room ≡ 4096 → (n ≡ 0 → ⊥) → n ≤ length buf → Grew a b (received room buf (Ok n) ∷ [])
+    → DoesOn a b (Hears so_far) (Err want)
+hears_starved a b so_far buf room n want is some fits grew =
+    hears_piece a b so_far buf room n (give one_device (Err want)) is some fits grew (λ left run does. memory want does)
+
+-- the reader answered a fault
+pub hears_fault : (a b : DeviceLog) (so_far buf : List ℕ) (room n : ℕ) (old : Phase) (fault : FrameFault) (heard : Heard) → room ≡ 4096 → (n ≡ 0 → ⊥) → n ≤ length buf → Grew a b (received room buf (Ok n) ∷ [])
+    → ReadsFrom so_far old → (fault ≢ faults.Memory → (more : List ℕ) → FromPhase old (take n buf ++ more) (Faults fault)) → IsHeardOf fault heard → DoesOn a b (Hears so_far) heard
+hears_fault a b so_far buf room n old fault heard is some fits grew from faulty (inl starved) =
+    subst (λ (h : Heard). DoesOn a b (Hears so_far) h) (sym starved.1) (hears_starved a b so_far buf room n starved.0 is some fits grew)
+hears_fault a b so_far buf room n old fault heard is some fits grew from faulty (inr broke) =
+    subst (λ (h : Heard). DoesOn a b (Hears so_far) h) (sym broke.1)
+    (hears_broken a b so_far buf room n fault is some fits grew (reads_fault so_far (take n buf) old fault from (faulty broke.0)))
+
+hears_nothing : (a b : DeviceLog) (so_far : List ℕ) → Grew a b (happened (Receive 4096) (Gives []) ∷ []) → DoesOn a b (Hears so_far) (Ok None)
+unfolding Hears
+hears_nothing a b so_far grew = on_call a b (Hears so_far) (give one_device (Ok None)) (happened (Receive 4096) (Gives [])) grew (λ more run does. does)
+
+-- the connection came to its end
+pub hears_end : (a b : DeviceLog) (so_far buf : List ℕ) (room n : ℕ) → room ≡ 4096 → n ≡ 0 → Grew a b (received room buf (Ok n) ∷ []) → DoesOn a b (Hears so_far) (Ok None)
+hears_end a b so_far buf room n is none grew =
+    hears_nothing a b so_far (subst (λ (k : ℕ). Grew a b (happened (Receive 4096) (Gives (take k buf)) ∷ [])) none (subst (λ (r : ℕ). Grew a b (happened (Receive r) (Gives (take n buf)) ∷ [])) is grew))
+
+pub hears_failed : (a b : DeviceLog) (so_far buf : List ℕ) (room : ℕ) (e : Failed) → room ≡ 4096 → Grew a b (received room buf (Err e) ∷ []) → DoesOn a b (Hears so_far) (Ok None)
+unfolding Hears
+hears_failed a b so_far buf room e is grew =
+    on_call a b (Hears so_far) (give one_device (Ok None)) (happened (Receive 4096) Fails) (subst (λ (r : ℕ). Grew a b (happened (Receive r) Fails ∷ [])) is grew) (λ more run does. does)
+
+pub talks_sent : (a b c : DeviceLog) (text : List ℕ) (heard : Heard) → DoesOn a b (Sends text) true → DoesOn b c (Hears []) heard → DoesOn a c (Talks text) heard
+talks_sent a b c text heard sending hearing =
+    on_then a b c (Talks text) (Hears []) (give one_device heard) (reaches_next one_device (Grew a b) (Sends text) true hears_if sending) hearing
+
+pub talks_failed : (a b : DeviceLog) (text : List ℕ) → DoesOn a b (Sends text) false → DoesOn a b (Talks text) (Ok None)
+talks_failed a b text sending = reaches_next one_device (Grew a b) (Sends text) false hears_if sending
+
+shuts : (a b : DeviceLog) (heard : Heard) → Grew a b (shut_down ∷ []) → DoesOn a b (Shuts heard) heard
+shuts a b heard grew = on_call a b (Shuts heard) (give one_device heard) shut_down grew (λ more run does. does)
+
+pub exchanges_whole : (a b c d : DeviceLog) (host text : List ℕ) (u : Unit {0}) (heard : Heard) → Grew a b (connected host 80 (Ok u) ∷ []) → DoesOn b c (Talks text) heard → Grew c d (shut_down ∷ [])
+    → DoesOn a d (Exchanges host text) heard
+exchanges_whole a b c d host text u heard connecting talking shutting =
+    on_then a b d (Exchanges host text) (and_then one_device (Talks text) Shuts) (give one_device heard)
+    (on_call a b (Exchanges host text) (and_then one_device (Talks text) Shuts) (happened (Connect host 80) Goes) connecting (λ more run does. does))
+    (on_then b c d (and_then one_device (Talks text) Shuts) (Shuts heard) (give one_device heard)
+    (reaches_next one_device (Grew b c) (Talks text) heard Shuts talking)
+    (shuts c d heard shutting))
+
+pub exchanges_failed : (a b : DeviceLog) (host text : List ℕ) (e : Failed) → Grew a b (connected host 80 (Err e) ∷ []) → DoesOn a b (Exchanges host text) (Ok None)
+exchanges_failed a b host text e connecting = on_call a b (Exchanges host text) (give one_device (Ok None)) (happened (Connect host 80) Fails) connecting (λ more run does. does)
+
+pub uploads_sent : (a b : DeviceLog) (host text : List ℕ) (path : PathParts) (bytes : List ℕ) (heard : Heard) → text ≡ put_text host path bytes → DoesOn a b (Exchanges host text) heard → DoesOn a b (Uploads host path bytes) heard
+uploads_sent a b host text path bytes heard is one =
+    as_reaches one_device (Grew a b) (Exchanges host (put_text host path bytes)) (give one_device heard) (Uploads host path bytes) (λ answers run does. sends_file does)
+    (subst (λ (t : List ℕ). DoesOn a b (Exchanges host t) heard) is one)
+
+pub uploads_starved : (a : DeviceLog) (host : List ℕ) (path : PathParts) (bytes : List ℕ) (want : Memory) → DoesOn a a (Uploads host path bytes) (Err want)
+uploads_starved a host path bytes want =
+    reaches_as one_device (Grew a a) (Uploads host path bytes) (give one_device (Err want)) (Uploads host path bytes) (λ answers run does. no_memory want does) (on_same a (Uploads host path bytes))

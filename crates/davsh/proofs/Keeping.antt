@@ -1,0 +1,348 @@
+-- A whole run keeps what was closed last, and its status has its cause.
+use Rattle.std.proofs.Common.{◌≡◌, ◌⊎◌, inl, inr, ◌↔◌, ℕ, List, [], ◌∷◌, ◌++◌, map, length, Bool, true, false, not, ◌||◌, if◌then◌else◌, codes, IsTrue, refl, sym, ◌∙◌, ap, subst, append-nil}
+use Rattle.dav_machine.specs.Log.{any_failed, Rose}
+use Rattle.dav_machine.specs.Devices.{one_device}
+use Rattle.dav_machine.specs.Machine.{Run, run_with, prepend, give, and_then, Follows}
+use Rattle.dav_machine.specs.Part.{lift, Lifted}
+use Rattle.dav_edge.specs.Device.{Answer, Happened, DeviceLog, Grew, ByteMachine, given, is_failure}
+use Rattle.dav_edge.specs.Whole.{Sends}
+use Rattle.dav_edge.proofs.Sending.{sent_so}
+use Rattle.dav_text.specs.Path.{PathParts}
+use Rattle.dav_desk.specs.Kept.{HoldsFile, files_of, lost_files_of}
+use Rattle.dav_desk.specs.Table.{Table, IsWithin, IsQueued, fresh_table}
+use Rattle.dav_desk.proofs.Laws.{fresh_is_within}
+use Rattle.davsh.specs.declared.ended.Status.{Status}
+use Rattle.davsh.specs.declared.ended.Status.TheVariants as status
+use Rattle.davsh.specs.declared.stop.Stop.{Stop}
+use Rattle.davsh.specs.declared.stop.Stop.TheVariants as stops
+use Rattle.davsh.specs.Words.{IsBase, HasNoBase}
+use Rattle.davsh.specs.Line.{lines_of}
+use Rattle.davsh.specs.Shell.{State, fresh_state, Shell}
+use Rattle.davsh.specs.Drain.{Drains}
+use Rattle.davsh.specs.Run.{Made, Answers, calls_on, answers_of, both, the_sink, the_wire, BothGrew, Ending, ending, with_table, without_memory, Says, words_end, input_end, memory_end, Starves, closing_status, left_text, Closes, tells, memory, after_drain, after_shell, RunsOn, Runs, refused, on, Ran}
+use Rattle.davsh.specs.Kept.{Told, line_of, Walks, IsLastClose, WasPut, IsKept, AllRead, Keeps}
+use Rattle.davsh.proofs.Telling.{Tells, shell_told}
+use Rattle.davsh.proofs.Walking.{walk_keeps}
+use Rattle.davsh.proofs.Emptying.{Put1, put_first, was_put, drained}
+
+abbrev EndRun : Type 0
+EndRun = Run Made Answers Ending
+
+or_true : (a b : Bool) → b ≡ true → (a || b) ≡ true
+or_true true b h = refl
+or_true false b h = h
+
+any_later : (es fs : List Happened) → any_failed is_failure fs ≡ true → any_failed is_failure (es ++ fs) ≡ true
+any_later [] fs h = h
+any_later (e ∷ es) fs h = or_true (is_failure e.answer) (any_failed is_failure (es ++ fs)) (any_later es fs h)
+
+first_or : (a b c : Bool) → (a || b) ≡ true → (b ≡ true → c ≡ true) → (a || c) ≡ true
+first_or true b c h f = refl
+first_or false b c h f = f h
+
+any_first : (es fs : List Happened) → any_failed is_failure es ≡ true → any_failed is_failure (es ++ fs) ≡ true
+any_first [] fs h = cc
+any_first (e ∷ es) fs h = first_or (is_failure e.answer) (any_failed is_failure es) (any_failed is_failure (es ++ fs)) h (any_first es fs)
+
+-- the statuses at which the input was read to its end
+abbrev is_read : Status → Bool
+is_read status.Done = true
+is_read status.Faults = true
+is_read status.Memory = true
+is_read _ = false
+
+-- How a run ends behind a state: what is queued and lost then, and why.
+record EndsAs (st : State) (run : EndRun) : Type 0 where
+  queued : run.result.1.queued ≡ files_of st.table.queued
+  lost : run.result.1.lost ≡ lost_files_of st.table.lost
+  done : run.result.1.done ≡ st.done
+  starves : run.result.0 ≡ status.Memory → run.result.1.starved ≡ true
+
+ends_as : (s : Status) (st : State) (run : EndRun) → (s ≡ status.Memory → st.starved ≡ true) → run.result ≡ ending s st → EndsAs st run
+ends_as s st run starved is = record {
+  queued = ap (λ (e : Ending). e.1.queued) is;
+  lost = ap (λ (e : Ending). e.1.lost) is;
+  done = ap (λ (e : Ending). e.1.done) is;
+  starves = λ m. ap (λ (e : Ending). e.1.starved) is ∙ starved (sym (ap (λ (e : Ending). e.0) is) ∙ m);
+}
+
+-- a last line on the sink
+record Said (end : Bool → Ending) (run : EndRun) : Type 0 where
+  all : Bool
+  result : run.result ≡ end all
+  failed : all ≡ false → any_failed is_failure run.made.out ≡ true
+
+says : (line : List ℕ) (end : Bool → Ending) (answers : Answers) (run : EndRun) → and_then both (lift the_sink (Sends line)) (λ all. give both (end all)) answers run → Said end run
+says line end answers run does =
+    let below = does.begins.below in
+    let first : does.before.result ≡ below.result = ap (λ (r : Run Made Answers Bool). r.result) does.begins.is in
+    let so = sent_so line answers.out below does.begins.does in
+    let made : run.made.out ≡ below.made ++ [] =
+    ap (λ (r : EndRun). r.made.out) does.whole
+    ∙ ap (λ (r : EndRun). does.before.made.out ++ r.made.out) does.goes_on
+    ∙ ap (λ (r : Run Made Answers Bool). r.made.out ++ []) does.begins.is in
+    record {
+      all = below.result;
+      result = ap (λ (r : EndRun). r.result) does.whole ∙ ap (λ (r : EndRun). r.result) does.goes_on ∙ ap end first;
+      failed = λ none. ap (any_failed is_failure) (made ∙ append-nil below.made) ∙ so.failed ∙ ap not none;
+    }
+
+-- the end of the run behind the drain
+record AfterDrain (st : State) (run : EndRun) : Type 0 where
+  ends : EndsAs st run
+  not_words : run.result.0 ≡ status.Words → ⊥
+  not_input : run.result.0 ≡ status.Input → ⊥
+  output : run.result.0 ≡ status.Output → any_failed is_failure run.made.out ≡ true
+
+starved_end : (st : State) (answers : Answers) (run : EndRun) → Starves st answers run → AfterDrain st run
+starved_end st answers run does =
+    let said = says memory_end (λ all. ending status.Memory (without_memory st)) answers run does in
+    let is : run.result.0 ≡ status.Memory = ap (λ (e : Ending). e.0) said.result in
+    let ends = ends_as status.Memory (without_memory st) run (λ m. refl) said.result in
+    record {
+      ends = record { queued = ends.queued; lost = ends.lost; done = ends.done; starves = ends.starves };
+      not_words = λ h. let x : status.Memory ≡ status.Words = sym is ∙ h in cc;
+      not_input = λ h. let x : status.Memory ≡ status.Input = sym is ∙ h in cc;
+      output = λ h. let x : status.Memory ≡ status.Output = sym is ∙ h in absurd (cc);
+    }
+
+closed_by : (faulty : Bool) → (if faulty then status.Faults else status.Done) ≡ status.Words → ⊥
+closed_by true is = cc
+closed_by false is = cc
+
+closed_input : (faulty : Bool) → (if faulty then status.Faults else status.Done) ≡ status.Input → ⊥
+closed_input true is = cc
+closed_input false is = cc
+
+closed_output : (faulty : Bool) → (if faulty then status.Faults else status.Done) ≡ status.Output → ⊥
+closed_output true is = cc
+closed_output false is = cc
+
+closed_memory : (faulty : Bool) → (if faulty then status.Faults else status.Done) ≡ status.Memory → ⊥
+closed_memory true is = cc
+closed_memory false is = cc
+
+told_by : (st : State) (run : EndRun) (all : Bool) → run.result ≡ ending (if all then closing_status st else status.Output) st → (all ≡ false → any_failed is_failure run.made.out ≡ true) → AfterDrain st run
+told_by st run true result failed =
+    let is : run.result.0 ≡ closing_status st = ap (λ (e : Ending). e.0) result in record {
+      ends = ends_as (closing_status st) st run (λ m. absurd (closed_memory st.faulty m)) result;
+      not_words = λ h. closed_by st.faulty (sym is ∙ h);
+      not_input = λ h. closed_input st.faulty (sym is ∙ h);
+      output = λ h. absurd (closed_output st.faulty (sym is ∙ h));
+    }
+told_by st run false result failed =
+    let is : run.result.0 ≡ status.Output = ap (λ (e : Ending). e.0) result in record {
+      ends = ends_as status.Output st run (λ m. absurd (cc)) result;
+      not_words = λ h. let x : status.Output ≡ status.Words = sym is ∙ h in cc;
+      not_input = λ h. let x : status.Output ≡ status.Input = sym is ∙ h in cc;
+      output = λ h. failed refl;
+    }
+
+closed_end : (st : State) (answers : Answers) (run : EndRun) → Closes st answers run → AfterDrain st run
+closed_end st answers run (tells does) =
+    let said = says (left_text (length st.table.queued) (length st.table.lost)) (λ all. ending (if all then closing_status st else status.Output) st) answers run does in
+    told_by st run said.all said.result said.failed
+closed_end st answers run (memory does) = starved_end st answers run does
+
+drained_end : (st : State) (went : Bool) (answers : Answers) (run : EndRun) → after_drain st went answers run → AfterDrain st run
+drained_end st true answers run does = closed_end st answers run does
+drained_end st false answers run does = starved_end st answers run does
+
+-- the end of the run behind the shell
+record AfterShell (host : List ℕ) (stop : Stop) (st : State) (run : EndRun) : Type 0 where
+  kept : (path : PathParts) (bytes : List ℕ) → IsQueued st.table path bytes → IsKept host path bytes run.result.1 run.made.up
+  done : run.result.1.done ≡ st.done
+  starves : run.result.0 ≡ status.Memory → run.result.1.starved ≡ true
+  not_words : run.result.0 ≡ status.Words → ⊥
+  input : run.result.0 ≡ status.Input → stop ≡ stops.Input
+  output : run.result.0 ≡ status.Output → (stop ≡ stops.Output) ⊎ (any_failed is_failure run.made.out ≡ true)
+  read : is_read run.result.0 ≡ true → stop ≡ stops.End
+
+stopped : (host : List ℕ) (stop : Stop) (st : State) (s : Status) (run : EndRun) → run.result ≡ ending s st → (s ≡ status.Memory → ⊥) → (s ≡ status.Words → ⊥)
+    → (s ≡ status.Input → stop ≡ stops.Input) → (s ≡ status.Output → stop ≡ stops.Output) → (is_read s ≡ true → stop ≡ stops.End) → AfterShell host stop st run
+stopped host stop st s run result not_memory not_words input output read =
+    let is : run.result.0 ≡ s = ap (λ (e : Ending). e.0) result in record {
+      kept = λ path bytes queued. inl (subst (λ (e : Ending). HoldsFile e.1.queued path bytes) (sym result) queued);
+      done = ap (λ (e : Ending). e.1.done) result;
+      starves = λ h. absurd (not_memory (sym is ∙ h));
+      not_words = λ h. not_words (sym is ∙ h);
+      input = λ h. input (sym is ∙ h);
+      output = λ h. inl (output (sym is ∙ h));
+      read = λ h. read (sym (ap is_read is) ∙ h);
+    }
+
+emptied : (host : List ℕ) (st : State) (answers : Answers) (run : EndRun) → IsWithin st.table → after_shell host st stops.End answers run → AfterShell host stops.End st run
+emptied host st answers run within does =
+    let below = does.begins.below in
+    let empty = drained host st.table answers.up below within does.begins.does in
+    let first : does.before.result ≡ below.result = ap (λ (r : Run Made Answers (Bool × Table)). r.result) does.begins.is in
+    let end = drained_end (with_table st does.before.result.1) does.before.result.0 does.before.left does.after does.goes_on in
+    let result : run.result ≡ does.after.result = ap (λ (r : EndRun). r.result) does.whole in
+    let status_is : run.result.0 ≡ does.after.result.0 = ap (λ (e : Ending). e.0) result in
+    let up : run.made.up ≡ below.made ++ does.after.made.up =
+    ap (λ (r : EndRun). r.made.up) does.whole ∙ ap (λ (r : Run Made Answers (Bool × Table)). r.made.up ++ does.after.made.up) does.begins.is in
+    let out : run.made.out ≡ does.after.made.out =
+    ap (λ (r : EndRun). r.made.out) does.whole ∙ ap (λ (r : Run Made Answers (Bool × Table)). r.made.out ++ does.after.made.out) does.begins.is in
+    let queue : files_of below.result.1.queued ≡ run.result.1.queued =
+    ap (λ (r : Bool × Table). files_of r.1.queued) (sym first) ∙ sym end.ends.queued ∙ ap (λ (e : Ending). e.1.queued) (sym result) in
+    record {
+      kept = λ path bytes queued. elim (empty.each path bytes queued) [
+        | inl stays ↦ inl (subst (λ l. HoldsFile l path bytes) queue stays)
+        | inr put ↦ inr (inr (subst (λ (l : List Happened). WasPut host path bytes l) (sym up) (was_put host path bytes (below.made ++ does.after.made.up) (put_first host path bytes below.made does.after.made.up put))))
+      ];
+      done = ap (λ (e : Ending). e.1.done) result ∙ end.ends.done;
+      starves = λ h. ap (λ (e : Ending). e.1.starved) result ∙ end.ends.starves (sym status_is ∙ h);
+      not_words = λ h. end.not_words (sym status_is ∙ h);
+      input = λ h. absurd (end.not_input (sym status_is ∙ h));
+      output = λ h. inr (ap (any_failed is_failure) out ∙ end.output (sym status_is ∙ h));
+      read = λ h. refl;
+    }
+
+after_stop : (host : List ℕ) (stop : Stop) (st : State) (answers : Answers) (run : EndRun) → IsWithin st.table → after_shell host st stop answers run → AfterShell host stop st run
+after_stop host stops.Output st answers run within does =
+    stopped host stops.Output st status.Output run (ap (λ (r : EndRun). r.result) does) (λ h. cc) (λ h. cc) (λ h. absurd (cc)) (λ h. refl) (λ h. absurd (cc))
+after_stop host stops.Input st answers run within does =
+    let said = says input_end (λ all. ending status.Input st) answers run does in
+    stopped host stops.Input st status.Input run said.result (λ h. cc) (λ h. cc) (λ h. refl) (λ h. absurd (cc)) (λ h. absurd (cc))
+after_stop host stops.End st answers run within does = emptied host st answers run within does
+
+-- What a run of the program comes to.
+record Outcome (words : List (List ℕ)) (bytes : List ℕ) (failed : Bool) (run : EndRun) : Type 0 where
+  told : List Told
+  last : State
+  rest : List (List ℕ)
+  lines : lines_of bytes ≡ map line_of told ++ rest
+  all : is_read run.result.0 ≡ true → rest ≡ []
+  answered : Walks fresh_state told last
+  done : last.done ≡ run.result.1.done
+  kept : (host : List ℕ) → IsBase words host → (path : PathParts) (bytes : List ℕ) → IsLastClose told path bytes → IsKept host path bytes run.result.1 run.made.up
+  refusal : (run.result.0 ≡ status.Words) ↔ HasNoBase words
+  input : run.result.0 ≡ status.Input → failed ≡ true
+  output : run.result.0 ≡ status.Output → any_failed is_failure run.made.out ≡ true
+  starves : run.result.0 ≡ status.Memory → run.result.1.starved ≡ true
+
+refused_outcome : (words : List (List ℕ)) (bytes : List ℕ) (failed : Bool) (answers : Answers) (run : EndRun) → HasNoBase words → Says words_end (ending status.Words fresh_state) answers run → Outcome words bytes failed run
+refused_outcome words bytes failed answers run none does =
+    let said = says words_end (λ all. ending status.Words fresh_state) answers run does in
+    let is : run.result.0 ≡ status.Words = ap (λ (e : Ending). e.0) said.result in record {
+      told = [];
+      last = fresh_state;
+      rest = lines_of bytes;
+      lines = refl;
+      all = λ h. let x : false ≡ true = sym (ap is_read is) ∙ h in absurd (cc);
+      answered = refl;
+      done = sym (ap (λ (e : Ending). e.1.done) said.result);
+      kept = λ host base path b close. absurd close;
+      refusal = (λ h. none, λ h. is);
+      input = λ h. let x : status.Words ≡ status.Input = sym is ∙ h in absurd (cc);
+      output = λ h. let x : status.Words ≡ status.Output = sym is ∙ h in absurd (cc);
+      starves = λ h. let x : status.Words ≡ status.Memory = sym is ∙ h in absurd (cc);
+    }
+
+nothing_last : (a : List ℕ) → a ++ 47 ∷ [] ≡ [] → ⊥
+nothing_last [] is = cc
+nothing_last (x ∷ a) is = cc
+
+slash_last : (a b : List ℕ) → a ++ 47 ∷ [] ≡ b ++ 47 ∷ [] → a ≡ b
+slash_last [] [] is = refl
+slash_last [] (y ∷ b) is = absurd (nothing_last b (let h : b ++ 47 ∷ [] ≡ [] = cc in h))
+slash_last (x ∷ a) [] is = absurd (nothing_last a (let h : a ++ 47 ∷ [] ≡ [] = cc in h))
+slash_last (x ∷ a) (y ∷ b) is =
+    let tails : a ++ 47 ∷ [] ≡ b ++ 47 ∷ [] = cc in
+    let heads : x ≡ y = cc in
+    ap (λ (z : ℕ). z ∷ a) heads ∙ ap (λ (l : List ℕ). y ∷ l) (slash_last a b tails)
+
+base_unique : (words : List (List ℕ)) (g h : List ℕ) → IsBase words g → IsBase words h → g ≡ h
+base_unique words g h one two =
+    let same : (codes "http://" ++ g ++ codes "/") ∷ [] ≡ (codes "http://" ++ h ++ codes "/") ∷ [] = sym one.only ∙ two.only in
+    slash_last g h (let tails : g ++ 47 ∷ [] ≡ h ++ 47 ∷ [] = cc in tails)
+
+on_outcome : (words : List (List ℕ)) (host bytes : List ℕ) (failed : Bool) (answers : Answers) (run : EndRun) → IsBase words host → RunsOn host bytes failed answers run → Outcome words bytes failed run
+on_outcome words host bytes failed answers run base does =
+    let below = does.begins.below in
+    let told = shell_told bytes failed [] fresh_state answers.out below does.begins.does in
+    let walk = walk_keeps told.told fresh_state below.result.1 fresh_is_within told.walked in
+    let first : does.before.result ≡ below.result = ap (λ (r : Run Made Answers (Stop × State)). r.result) does.begins.is in
+    let goes : after_shell host below.result.1 below.result.0 does.before.left does.after =
+    subst (λ (r : Stop × State). after_shell host r.1 r.0 does.before.left does.after) first does.goes_on in
+    let end = after_stop host below.result.0 below.result.1 does.before.left does.after walk.within goes in
+    let result : run.result ≡ does.after.result = ap (λ (r : EndRun). r.result) does.whole in
+    let status_is : run.result.0 ≡ does.after.result.0 = ap (λ (e : Ending). e.0) result in
+    let up : run.made.up ≡ does.after.made.up =
+    ap (λ (r : EndRun). r.made.up) does.whole ∙ ap (λ (r : Run Made Answers (Stop × State)). r.made.up ++ does.after.made.up) does.begins.is in
+    let out : run.made.out ≡ below.made ++ does.after.made.out =
+    ap (λ (r : EndRun). r.made.out) does.whole ∙ ap (λ (r : Run Made Answers (Stop × State)). r.made.out ++ does.after.made.out) does.begins.is in
+    record {
+      told = told.told;
+      last = below.result.1;
+      rest = told.rest;
+      lines = told.lines_are;
+      all = λ h. told.all (end.read (sym (ap is_read status_is) ∙ h));
+      answered = told.walked;
+      done = sym end.done ∙ sym (ap (λ (e : Ending). e.1.done) result);
+      kept = λ other same path b close.
+          subst (λ (h : List ℕ). IsKept h path b run.result.1 run.made.up) (base_unique words host other base same)
+          (subst (λ (e : Ending). IsKept host path b e.1 run.made.up) (sym result)
+          (subst (λ (l : List Happened). IsKept host path b does.after.result.1 l) (sym up)
+          (end.kept path b (walk.last path b close))));
+      refusal = (λ h. absurd (end.not_words (sym status_is ∙ h)), λ none. absurd (none host base));
+      input = λ h. told.source (end.input (sym status_is ∙ h));
+      output = λ h. elim (end.output (sym status_is ∙ h)) [
+        | inl stop ↦ ap (any_failed is_failure) out ∙ any_first below.made does.after.made.out (told.sink stop)
+        | inr later ↦ ap (any_failed is_failure) out ∙ any_later below.made does.after.made.out later
+      ];
+      starves = λ h. ap (λ (e : Ending). e.1.starved) result ∙ end.starves (sym status_is ∙ h);
+    }
+
+outcome : (words : List (List ℕ)) (bytes : List ℕ) (failed : Bool) (answers : Answers) (run : EndRun) → Runs words bytes failed answers run → Outcome words bytes failed run
+outcome words bytes failed answers run (refused none does) = refused_outcome words bytes failed answers run none does
+outcome words bytes failed answers run (on host base does) = on_outcome words host bytes failed answers run base does
+
+all_read : (s : Status) (rest : List (List ℕ)) → (is_read s ≡ true → rest ≡ []) → AllRead s rest
+all_read status.Done rest all = all refl
+all_read status.Faults rest all = all refl
+all_read status.Memory rest all = all refl
+all_read status.Words rest all = tt
+all_read status.Input rest all = tt
+all_read status.Output rest all = tt
+
+-- the whole run that a `Ran` tells of
+whole_of : (words : List (List ℕ)) (s0 s1 o p u v : DeviceLog) (end : Ending) (ran : Ran words s0 s1 o p u v end)
+    → Outcome words (given ran.heard) (any_failed is_failure ran.heard) (run_with end (both.joined ran.does.made both.nothing) (answers_of [] []))
+whole_of words s0 s1 o p u v end ran =
+    outcome words (given ran.heard) (any_failed is_failure ran.heard) (both.answered ran.does.made (answers_of [] [])) (run_with end (both.joined ran.does.made both.nothing) (answers_of [] []))
+    (ran.does.same (answers_of [] []) (run_with end both.nothing (answers_of [] [])) refl)
+
+grew_whole : (o p u v : DeviceLog) (made : Made) → BothGrew o p u v made → BothGrew o p u v (both.joined made both.nothing)
+grew_whole o p u v made grew = subst (BothGrew o p u v) (sym (both.joined_nothing made)) grew
+
+pub keeps : (words : List (List ℕ)) (s0 s1 o p u v : DeviceLog) (end : Ending) → Ran words s0 s1 o p u v end → Keeps words s0 s1 o p u v end
+keeps words s0 s1 o p u v end ran =
+    let all = whole_of words s0 s1 o p u v end ran in record {
+      heard = ran.heard;
+      made = both.joined ran.does.made both.nothing;
+      told = all.told;
+      last = all.last;
+      rest = all.rest;
+      gave = ran.grew;
+      grew = grew_whole o p u v ran.does.made ran.does.grew;
+      ended = ran.ended;
+      lines = all.lines;
+      all = all_read end.0 all.rest all.all;
+      answered = all.answered;
+      done = all.done;
+      kept = all.kept;
+    }
+
+pub words_refused : (words : List (List ℕ)) (s0 s1 o p u v : DeviceLog) (end : Ending) → Ran words s0 s1 o p u v end → (end.0 ≡ status.Words) ↔ HasNoBase words
+words_refused words s0 s1 o p u v end ran = (whole_of words s0 s1 o p u v end ran).refusal
+
+pub input_rose : (words : List (List ℕ)) (s0 s1 o p u v : DeviceLog) (end : Ending) → Ran words s0 s1 o p u v end → end.0 ≡ status.Input → Rose s0.faults s1.faults
+input_rose words s0 s1 o p u v end ran h = ran.grew.rose ((whole_of words s0 s1 o p u v end ran).input h)
+
+pub output_rose : (words : List (List ℕ)) (s0 s1 o p u v : DeviceLog) (end : Ending) → Ran words s0 s1 o p u v end → end.0 ≡ status.Output → Rose o.faults p.faults
+output_rose words s0 s1 o p u v end ran h =
+    (grew_whole o p u v ran.does.made ran.does.grew).out.rose ((whole_of words s0 s1 o p u v end ran).output h)
+
+pub memory_starves : (words : List (List ℕ)) (s0 s1 o p u v : DeviceLog) (end : Ending) → Ran words s0 s1 o p u v end → end.0 ≡ status.Memory → end.1.starved ≡ true
+memory_starves words s0 s1 o p u v end ran h = (whole_of words s0 s1 o p u v end ran).starves h

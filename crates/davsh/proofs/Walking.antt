@@ -1,0 +1,112 @@
+-- What was closed last stays queued while the lines are carried out.
+use Rattle.std.proofs.Common.{◌≡◌, ◌≢◌, ◌⊎◌, inl, inr, ℕ, List, [], ◌∷◌, ◌++◌, length, Bool, true, false, Result, Ok, Err, refl, sym, ◌∙◌, ap, subst, arith}
+use Rattle.dav_text.specs.Path.{PathParts}
+use Rattle.dav_text.specs.declared.which.Which.{Which}
+use Rattle.dav_text.specs.declared.which.Which.TheVariants as limits
+use Rattle.dav_desk.specs.Kept.{KeptFile, IsFile, HoldsFile}
+use Rattle.dav_desk.specs.Table.{Table, IsWithin, IsQueued}
+use Rattle.dav_desk.specs.After.{after}
+use Rattle.dav_desk.specs.declared.answer.Answer.{Answer as DeskAnswer}
+use Rattle.dav_desk.specs.declared.ask.Ask.TheVariants.{Store}
+use Rattle.dav_desk.proofs.Laws.{store_queues, store_keeps_others, store_is_within, store_loses_nothing}
+use Rattle.davsh.specs.Line.{IsPut}
+use Rattle.davsh.specs.Shell.{State, counted, closed_line, syntax_line, memory_line, limit_line, Answered, nothing, syntax, closed, limit, memory}
+use Rattle.davsh.specs.Kept.{Told, Walks, IsClose, NoClose, IsLastClose}
+use Rattle.davsh.proofs.PutLines.{put_unique}
+
+-- the files hold what they hold for each path of the same segments
+pub holds_same : (files : List KeptFile) (p q : PathParts) (bytes : List ℕ) → p.segments ≡ q.segments → HoldsFile files p bytes → HoldsFile files q bytes
+holds_same [] p q bytes same holds = holds
+holds_same (file ∷ files) p q bytes same (inl here) = inl (here.0 ∙ same, here.1)
+holds_same (file ∷ files) p q bytes same (inr later) = inr (holds_same files p q bytes same later)
+
+abbrev first_byte : List ℕ → ℕ
+first_byte [] = 0
+first_byte (b ∷ bytes) = b
+
+begins_otherwise : (n : ℕ) → n ≡ 102 → n ≡ 99 → ⊥
+begins_otherwise n one other = absurd (omega arith)
+
+limit_first : (which : Which) (path : PathParts) (len : ℕ) → limit_line which ≡ closed_line path len → ⊥
+limit_first which path len is = begins_otherwise (first_byte (limit_line which)) refl (ap first_byte is)
+
+-- what one line does to the files of the queue
+record Keeps1 (told : Told) (before now : State) : Type 0 where
+  within : IsWithin now.table
+  lost : now.table.lost ≡ before.table.lost
+  stays : (path : PathParts) (bytes : List ℕ) → ((b : List ℕ) → IsClose told path b → ⊥) → IsQueued before.table path bytes → IsQueued now.table path bytes
+  closes : (path : PathParts) (bytes : List ℕ) → IsClose told path bytes → IsQueued now.table path bytes
+
+-- the table is the same, and the line closed nothing
+keeps_same : (told : Told) (before now : State) → IsWithin before.table → now.table ≡ before.table → ((path : PathParts) (len : ℕ) → told.printed ≡ closed_line path len → ⊥) → Keeps1 told before now
+keeps_same told before now within same other = record {
+  within = subst IsWithin (sym same) within;
+  lost = ap (λ (t : Table). t.lost) same;
+  stays = λ path bytes none queued. subst (λ (t : Table). IsQueued t path bytes) (sym same) queued;
+  closes = λ path bytes close. absurd (other close.typed (length bytes) close.printed);
+}
+
+keeps_closed : (told : Told) (before now : State) (path : PathParts) (bytes : List ℕ) (table : Table) (answer : DeskAnswer) → IsWithin before.table → IsPut told.line path bytes
+    → after before.table (Store path bytes) ≡ (table, Ok answer) → told.printed ≡ closed_line path (length bytes) → now.table ≡ table → Keeps1 told before now
+keeps_closed told before now path bytes table answer within put step printed is =
+    let back : table ≡ now.table = sym is in record {
+      within = subst IsWithin back (store_is_within before.table path bytes table answer within step);
+      lost = ap (λ (t : Table). t.lost) is ∙ store_loses_nothing before.table path bytes table answer step;
+      stays = λ other b none queued. subst (λ (t : Table). IsQueued t other b) back
+          (store_keeps_others before.table path bytes table answer step other b
+          (λ same. none bytes (record { typed = path; put = put; same = sym same; printed = printed })) queued);
+      closes = λ other b close.
+          let one = put_unique told.line path close.typed bytes b put close.put in
+          let same : path.segments ≡ other.segments = ap (λ (p : PathParts). p.segments) one.0 ∙ close.same in
+          subst (λ (t : Table). IsQueued t other b) back
+          (holds_same _ path other b same
+          (subst (λ (l : List ℕ). IsQueued table path l) one.1 (store_queues before.table path bytes table answer step)));
+    }
+
+keeps_one : (told : Told) (before now : State) → IsWithin before.table → Answered before told.line told.printed now → Keeps1 told before now
+keeps_one told before now within (nothing empty printed is) =
+    keeps_same told before now within (ap (λ (s : State). s.table) is) (λ path len same. let h : 0 ≡ 99 = ap first_byte (sym printed ∙ same) in absurd (omega arith))
+keeps_one told before now within (syntax some none printed is) =
+    keeps_same told before now within (ap (λ (s : State). s.table) is) (λ path len same. let h : 102 ≡ 99 = ap first_byte (sym printed ∙ same) in absurd (omega arith))
+keeps_one told before now within (closed path bytes table answer put step printed is) =
+    keeps_closed told before now path bytes table answer within put step printed (ap (λ (s : State). s.table) is)
+keeps_one told before now within (limit path bytes which put step printed is) =
+    keeps_same told before now within (ap (λ (s : State). s.table) is) (λ path len same. limit_first which path len (sym printed ∙ same))
+keeps_one told before now within (memory printed is) =
+    keeps_same told before now within (ap (λ (s : State). s.table) is) (λ path len same. let h : 102 ≡ 99 = ap first_byte (sym printed ∙ same) in absurd (omega arith))
+
+-- what some lines do to the files of the queue
+pub record WalkKeeps (told : List Told) (before now : State) : Type 0 where
+  pub within : IsWithin now.table
+  pub lost : now.table.lost ≡ before.table.lost
+  pub stays : (path : PathParts) (bytes : List ℕ) → NoClose told path → IsQueued before.table path bytes → IsQueued now.table path bytes
+  pub last : (path : PathParts) (bytes : List ℕ) → IsLastClose told path bytes → IsQueued now.table path bytes
+
+walk_none : (before now : State) → IsWithin before.table → now ≡ before → WalkKeeps [] before now
+walk_none before now within is = subst (WalkKeeps [] before) (sym is) (record {
+  within = within;
+  lost = refl;
+  stays = λ path bytes none queued. queued;
+  last = λ path bytes close. absurd close;
+})
+
+walk_more : (t : Told) (told : List Told) (before now end : State) → Keeps1 t before now → WalkKeeps told now end → WalkKeeps (t ∷ told) before end
+walk_more t told before now end one more = record {
+  within = more.within;
+  lost = more.lost ∙ one.lost;
+  stays = λ path bytes none queued. more.stays path bytes none.1 (one.stays path bytes none.0 queued);
+  last = λ path bytes close. elim close [
+    | inl later ↦ more.last path bytes later
+    | inr here ↦ more.stays path bytes here.1 (one.closes path bytes here.0)
+  ];
+}
+
+pub walk_keeps : (told : List Told) (before end : State) → IsWithin before.table → Walks before told end → WalkKeeps told before end
+walk_keeps [] before end within walks = walk_none before end within walks
+walk_keeps (t ∷ told) before end within (now, answered, inl (none, is)) =
+    let one = keeps_one t before now within answered in
+    walk_more t told before now end one (subst (λ (l : List Told). WalkKeeps l now end) (sym none) (walk_none now end one.within is))
+walk_keeps (t ∷ told) before end within (now, answered, inr walks) =
+    let one = keeps_one t before now within answered in
+    let more = walk_keeps told (counted now) end one.within walks in
+    walk_more t told before now end one (record { within = more.within; lost = more.lost; stays = more.stays; last = more.last })

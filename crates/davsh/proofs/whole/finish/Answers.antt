@@ -1,0 +1,12 @@
+use Rattle.std.proofs.Common.{Bool, true, false, subst}
+use Rattle.dav_edge.specs.Whole.{DoesOn}
+use Rattle.davsh.specs.Said.{state_of}
+use Rattle.davsh.specs.Drain.{Drains}
+use Rattle.davsh.proofs.Ending.{finishes}
+use Rattle.davsh.proofs.whole.finish.Goals as goal
+
+pub returns-then-drain : goal.returns-then-drain
+returns-then-drain g c = finishes _ _ _ _ c.args.host.now (state_of c.args.shell) c.drain.new.desk true _ c.if-drain.ensures c.close.ensures
+
+pub returns-else-drain : goal.returns-else-drain
+returns-else-drain g c = finishes _ _ _ _ c.args.host.now (state_of c.args.shell) c.drain.new.desk false _ c.if-drain.ensures c.starve.ensures

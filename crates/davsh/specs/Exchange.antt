@@ -1,0 +1,81 @@
+-- One request and its reply: connect, send the whole text, read one reply, shut.
+use Rattle.std.specs.Prelude.{◌≡◌, ◌≢◌, ◌⊎◌, ℕ, List, [], ◌∷◌, ◌++◌, codes, Bool, true, false, Option, Some, None, Result, Ok, Err, nat_le, ◌&&◌, if◌then◌else◌}
+use Rattle.dav_machine.specs.Devices.{one_device}
+use Rattle.dav_machine.specs.Machine.{Run, give, Calls, and_then}
+use Rattle.dav_edge.specs.Device.{Connect, Receive, Answer, Fails, Goes, Gives, Happened, happened, shut_down, ByteMachine}
+use Rattle.dav_edge.specs.Whole.{Sends}
+use Rattle.dav_text.specs.declared.memory.Memory.{Memory}
+use Rattle.dav_text.specs.declared.method.Method.TheVariants.{Put}
+use Rattle.dav_text.specs.Path.{PathParts, escaped}
+use Rattle.dav_frame.specs.declared.fields.FieldName.TheVariants.{IfNoneMatch}
+use Rattle.dav_frame.specs.declared.request.Req.{Req}
+use Rattle.dav_frame.specs.declared.fault.FrameFault.{FrameFault}
+use Rattle.dav_frame.specs.declared.fault.FrameFault.TheVariants as faults
+use Rattle.dav_frame.specs.declared.reader.Reply.{Reply}
+use Rattle.dav_frame.specs.Framing.{Framing, Gives as GivesReply, Faults, Short}
+use Rattle.dav_frame.specs.Request.{request_text}
+
+-- the request that stores the bytes as a new file
+abbrev pub put_request : List ℕ → PathParts → List ℕ → Req
+put_request host path bytes = record {
+  method = Put;
+  host = host;
+  target = escaped path;
+  fields = (IfNoneMatch, codes "*") ∷ [];
+  body = bytes;
+}
+
+abbrev pub put_text : List ℕ → PathParts → List ℕ → List ℕ
+put_text host path bytes = request_text (put_request host path bytes)
+
+-- the status of a whole reply, or none where no whole reply came, or want of memory
+abbrev pub Heard : Type 0
+Heard = Result (Option ℕ) Memory
+
+-- a fault is no reply, or was want of memory
+abbrev pub IsHeardOf : FrameFault → Heard → Type 0
+IsHeardOf fault heard = ((want : Memory) × (heard ≡ Err want)) ⊎ ((fault ≢ faults.Memory) × (heard ≡ Ok None))
+
+-- What is done after a piece that isn't the last of the connection, by what the bytes so far are: a whole
+-- reply, no beginning of one, or the beginning of one, behind which the reading goes on.
+pub data Judged (so_far : List ℕ) (GoesOn : Run (List Happened) (List Answer) Heard → Type 0) (left : List Answer) (run : Run (List Happened) (List Answer) Heard) : Type 0 where
+  whole : (reply : Reply) (rest : List ℕ) → Framing Put so_far (GivesReply reply rest) → give one_device (Ok (Some reply.status)) left run → Judged so_far GoesOn left run
+  broken : (fault : FrameFault) → Framing Put so_far (Faults fault) → give one_device (Ok None) left run → Judged so_far GoesOn left run
+  short : Framing Put so_far Short → GoesOn run → Judged so_far GoesOn left run
+  memory : (want : Memory) → give one_device (Err want) left run → Judged so_far GoesOn left run
+
+-- the reply is read, behind what has come of it
+unfoldable pub Hears : List ℕ → ByteMachine Heard
+Hears so_far (Fails ∷ more) run = Calls (happened (Receive 4096) Fails) (give one_device (Ok None) more) run
+Hears so_far (Gives [] ∷ more) run = Calls (happened (Receive 4096) (Gives [])) (give one_device (Ok None) more) run
+Hears so_far (Gives (b ∷ bytes) ∷ more) run =
+    Calls (happened (Receive 4096) (Gives (b ∷ bytes))) (Judged (so_far ++ b ∷ bytes) (Hears (so_far ++ b ∷ bytes) more) more) run
+Hears so_far _ run = ⊥
+
+abbrev pub hears_if : Bool → ByteMachine Heard
+hears_if true = Hears []
+hears_if false = give one_device (Ok None)
+
+-- the text is sent, and where it went whole the reply is read
+abbrev pub Talks : List ℕ → ByteMachine Heard
+Talks text = and_then one_device (Sends text) hears_if
+
+-- the connection is shut
+abbrev pub Shuts : Heard → ByteMachine Heard
+Shuts heard (Goes ∷ more) run = Calls shut_down (give one_device heard more) run
+Shuts heard _ run = ⊥
+
+-- a connection to the host's port 80, the text and its reply on it, and its end
+abbrev pub Exchanges : List ℕ → List ℕ → ByteMachine Heard
+Exchanges host text (Goes ∷ more) run = Calls (happened (Connect host 80) Goes) (and_then one_device (Talks text) Shuts more) run
+Exchanges host text (Fails ∷ more) run = Calls (happened (Connect host 80) Fails) (give one_device (Ok None) more) run
+Exchanges host text _ run = ⊥
+
+-- the file is sent as a new one, or there was no memory for its request
+pub data Uploads (host : List ℕ) (path : PathParts) (bytes : List ℕ) (answers : List Answer) (run : Run (List Happened) (List Answer) Heard) : Type 0 where
+  sends : Exchanges host (put_text host path bytes) answers run → Uploads host path bytes answers run
+  memory : (want : Memory) → give one_device (Err want) answers run → Uploads host path bytes answers run
+
+-- the status says that the server took the request
+abbrev pub is_success : ℕ → Bool
+is_success status = nat_le 200 status && nat_le status 299

@@ -1,0 +1,94 @@
+-- What a caller of a run may rely on.
+use Rattle.std.specs.Prelude.{◌≡◌, ◌≢◌, ◌⊎◌, ℕ, List, [], ◌∷◌, ◌++◌, map, length, Contains, true}
+use Rattle.dav_machine.specs.Log.{any_failed}
+use Rattle.dav_edge.specs.Device.{Happened, DeviceLog, Grew, given}
+use Rattle.dav_edge.specs.Connections.{Connection, connections_of}
+use Rattle.dav_text.specs.declared.method.Method.TheVariants.{Put}
+use Rattle.dav_text.specs.Path.{PathParts}
+use Rattle.dav_frame.specs.declared.reader.Reply.{Reply}
+use Rattle.dav_frame.specs.Framing.{Framing, Gives as GivesReply}
+use Rattle.dav_desk.specs.Kept.{HoldsFile}
+use Rattle.davsh.specs.declared.ended.Ended.{Ended}
+use Rattle.davsh.specs.declared.ended.Status.{Status}
+use Rattle.davsh.specs.declared.ended.Status.TheVariants.{Done, Faults, Memory}
+use Rattle.davsh.specs.Words.{IsBase}
+use Rattle.davsh.specs.Line.{lines_of, IsPut}
+use Rattle.davsh.specs.Shell.{State, fresh_state, counted, closed_line, Answered}
+use Rattle.davsh.specs.Exchange.{put_text, is_success}
+use Rattle.davsh.specs.Run.{Made, BothGrew, Ending, EndHeard}
+
+-- a line that was carried out, and what was printed of it
+pub record Told : Type 0 where
+  pub line : List ℕ
+  pub printed : List ℕ
+
+abbrev pub line_of : Told → List ℕ
+line_of told = told.line
+
+-- the lines were carried out one after another; the sink may have failed in the last
+abbrev pub Walks : State → List Told → State → Type 0
+Walks before [] end = end ≡ before
+Walks before (told ∷ more) end =
+    (now : State) × Answered before told.line told.printed now × (((more ≡ []) × (end ≡ now)) ⊎ Walks (counted now) more end)
+
+-- the line stored these bytes under this path, and `closed` was the answer
+pub record IsClose (told : Told) (path : PathParts) (bytes : List ℕ) : Type 0 where
+  pub typed : PathParts
+  pub put : IsPut told.line typed bytes
+  pub same : typed.segments ≡ path.segments
+  pub printed : told.printed ≡ closed_line typed (length bytes)
+
+-- none of the lines closed this path
+abbrev pub NoClose : List Told → PathParts → Type 0
+NoClose [] path = Unit {0}
+NoClose (told ∷ more) path = ((bytes : List ℕ) → ¬ (IsClose told path bytes)) × NoClose more path
+
+-- the last of the lines that closed the path did so with these bytes
+abbrev pub IsLastClose : List Told → PathParts → List ℕ → Type 0
+IsLastClose [] path bytes = ⊥
+IsLastClose (told ∷ more) path bytes = IsLastClose more path bytes ⊎ (IsClose told path bytes × NoClose more path)
+
+-- Among these calls of a wire a connection to the host was sent the whole request that stores the bytes as a
+-- new file, and what was received on it begins with a whole reply whose status is 200 to 299.
+pub record WasPut (host : List ℕ) (path : PathParts) (bytes : List ℕ) (events : List Happened) : Type 0 where
+  pub connection : Connection
+  pub among : Contains (connections_of events) connection
+  pub to_host : connection.host ≡ host
+  pub to_port : connection.port ≡ 80
+  pub named : PathParts
+  pub same : named.segments ≡ path.segments
+  pub sent : connection.sent ≡ put_text host named bytes
+  pub reply : Reply
+  pub rest : List ℕ
+  pub received : Framing Put connection.received (GivesReply reply rest)
+  pub success : is_success reply.status ≡ true
+
+-- the bytes are queued, or lost, or were sent
+abbrev pub IsKept : List ℕ → PathParts → List ℕ → Ended → List Happened → Type 0
+IsKept host path bytes end events =
+    HoldsFile end.queued path bytes ⊎ (HoldsFile end.lost path bytes ⊎ WasPut host path bytes events)
+
+-- at these statuses every line of the input was carried out
+abbrev pub AllRead : Status → List (List ℕ) → Type 0
+AllRead Done rest = rest ≡ []
+AllRead Faults rest = rest ≡ []
+AllRead Memory rest = rest ≡ []
+AllRead _ rest = Unit {0}
+
+-- The source gave these bytes, and their first lines were carried out, with these answers. For each path the
+-- bytes of the last line that closed it are kept.
+pub record Keeps (words : List (List ℕ)) (source_old source_new out_old out_new up_old up_new : DeviceLog) (end : Ending) : Type 0 where
+  pub heard : List Happened
+  pub made : Made
+  pub told : List Told
+  pub last : State
+  pub rest : List (List ℕ)
+  pub gave : Grew source_old source_new heard
+  pub grew : BothGrew out_old out_new up_old up_new made
+  pub ended : EndHeard end.0 heard
+  pub lines : lines_of (given heard) ≡ map line_of told ++ rest
+  pub all : AllRead end.0 rest
+  pub answered : Walks fresh_state told last
+  pub done : last.done ≡ end.1.done
+  pub kept : (host : List ℕ) → IsBase words host → (path : PathParts) (bytes : List ℕ)
+      → IsLastClose told path bytes → IsKept host path bytes end.1 made.up

@@ -1,0 +1,10 @@
+pub mod Carrying
+pub mod Drain
+pub mod Exchange
+pub mod Kept
+pub mod Line
+pub mod Pending
+pub mod Run
+pub mod Said
+pub mod Shell
+pub mod Words

@@ -1,0 +1,52 @@
+ghost use Rattle.std.specs.Prelude.{◌≡◌, Ok};
+ghost use Rattle.dav_edge.specs.Whole.{DoesOn};
+ghost use Rattle.dav_desk.specs.After.{after};
+ghost use Rattle.dav_desk.specs.declared.answer.Answer.{Answer as DeskAnswer};
+ghost use Rattle.dav_desk.specs.declared.ask.Ask.TheVariants.{Settle};
+ghost use Rattle.davsh.specs.Drain.{Drains, IsFlying, done_of};
+
+use crate::exchange::upload;
+use dav_desk::{Answer, Ask, Desk, Done};
+use dav_edge::Wire;
+use std::alloc::Global;
+
+/// Sends each file that is queued once. False is want of memory.
+pub fn drain<V: Wire>(alloc: Global, host: &str, wire: &mut V, desk: &mut Desk) -> bool
+    ensures { DoesOn (V.log wire.old) (V.log wire.new) (Drains host.now desk.old) (result, desk.new) }
+{
+    loop {
+        let Ok(answer) = desk.step(&Ask::Take) else {
+            return false;
+        };
+        let Answer::Took(job) = answer else {
+            return true;
+        };
+        let number = job.number;
+        let Ok(came) = upload(alloc, host, wire, job) else {
+            return false;
+        };
+        settle(desk, number, done_of(came));
+    }
+}
+
+/// Ends the job in flight.
+fn settle(desk: &mut Desk, number: u64, done: Done)
+    requires { IsFlying desk.old number }
+    ensures { (answer : DeskAnswer) × (after desk.old (Settle number done) ≡ (desk.new, Ok answer)) }
+{
+    let ask = Ask::Settle { job: number, done };
+    match desk.step(&ask) {
+        Ok(_) => {}
+        Err(_) => unreachable!(),
+    }
+}
+
+/// How a job ends: only a whole reply that says that the server took the file settles it.
+fn done_of(came: Option<u16>) -> Done
+    ensures { result ≡ done_of came }
+{
+    match came {
+        Some(200..=299) => Done::Sent,
+        _ => Done::Again,
+    }
+}

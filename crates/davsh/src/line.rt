@@ -1,0 +1,76 @@
+ghost use Rattle.std.specs.Prelude.{IfOk, MatchOption, IsTrue, ◌↔◌};
+ghost use Rattle.davsh.specs.Line.{IsPut, IsNoPut, IsArgument, IsPlain, IsUnbroken, IsFirstBlank, IsSplit};
+
+use dav_text::{Blob, Memory, Path, PathFault};
+use std::alloc::Global;
+use std::str;
+
+/// A store that a line asks for.
+#[derive(Drop)]
+pub struct Put {
+    pub path: Path,
+    pub bytes: Blob,
+}
+
+/// The store that the line asks for, where it is `fput`, a path and printable characters.
+pub fn read_put(alloc: Global, line: &[u8]) -> Result<Option<Put>, Memory>
+    ensures { IfOk result (λ put. MatchOption put (IsNoPut line.now) (λ p. IsPut line.now p.path p.bytes)) }
+{
+    let Some((target, bytes)) = put_words(line) else {
+        return Ok(None);
+    };
+    let path = match Path::read(alloc, target) {
+        Ok(path) => path,
+        Err(PathFault::Early) => return Ok(None),
+        Err(PathFault::Memory) => return Err(Memory),
+    };
+    let Ok(bytes) = Blob::copy_of(alloc, bytes) else {
+        return Err(Memory);
+    };
+    Ok(Some(Put { path, bytes }))
+}
+
+/// The two words after `fput`, where the second is one that can be stored.
+fn put_words(line: &[u8]) -> Option<(&str, &[u8])>
+    ensures { MatchOption result (IsNoPut line.now)
+        (λ words. IsSplit line.now words.0.now words.1.now) }
+{
+    let Some(words) = line.strip_prefix(b"fput ") else {
+        return None;
+    };
+    let Some(blank) = first_blank(words) else {
+        return None;
+    };
+    let bytes = &words[blank + 1..];
+    if !is_argument(bytes) {
+        return None;
+    }
+    match str::from_utf8(&words[..blank]) {
+        Ok(target) => Some((target, bytes)),
+        Err(_) => None,
+    }
+}
+
+/// The place of the first blank.
+fn first_blank(bytes: &[u8]) -> Option<usize>
+    ensures { MatchOption result (IsUnbroken bytes.now) (IsFirstBlank bytes.now) }
+{
+    for (at, byte) in bytes.iter().enumerate() {
+        if *byte == b' ' {
+            return Some(at);
+        }
+    }
+    None
+}
+
+fn is_argument(bytes: &[u8]) -> bool
+    ensures { IsTrue result ↔ IsArgument bytes.now }
+{
+    !bytes.is_empty() && bytes.len() <= 60_000 && bytes.iter().all(|b| is_plain(*b))
+}
+
+fn is_plain(byte: u8) -> bool
+    ensures { IsTrue result ↔ IsPlain byte }
+{
+    matches!(byte, 33..=126) && byte != b'"'
+}

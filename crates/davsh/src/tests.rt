@@ -1,0 +1,233 @@
+use crate::ended::{Ended, Status};
+use crate::whole::run;
+use dav_edge::{MemConnection, MemSink, MemSource, MemWire, Stream};
+use std::alloc::{AllocError, Global};
+use std::test::Fail;
+
+/// What a run came to.
+#[derive(Drop)]
+struct Outcome {
+    status: Status,
+    ended: Ended,
+    out: Vec<u8>,
+    up: Vec<MemConnection>,
+}
+
+/// The program on one line of input, with a stream for each connection.
+#[derive(Clone, Copy)]
+struct Script<'a> {
+    word: &'a str,
+    input: &'a [u8],
+    streams: &'a [&'a [u8]],
+    input_fails: &'a [u64],
+    out_fails: &'a [u64],
+    up_fails: &'a [u64],
+    most: usize,
+}
+
+const CREATED: &[u8] = b"HTTP/1.1 201 Created\r\nETag: \"1\"\r\nContent-Length: 0\r\n\r\n";
+
+fn on_input<'a>(input: &'a [u8], streams: &'a [&'a [u8]]) -> Script<'a> {
+    Script {
+        word: "http://h/",
+        input,
+        streams,
+        input_fails: &[],
+        out_fails: &[],
+        up_fails: &[],
+        most: 1024,
+    }
+}
+
+fn outcome_of(alloc: Global, script: &Script<'_>) -> Result<Outcome, AllocError> {
+    let mut words = Vec::new(alloc);
+    words.push(String::from_str(alloc, script.word)?)?;
+    let mut streams = Vec::new(alloc);
+    for stream in script.streams {
+        let bytes = Vec::from_slice(alloc, stream)?;
+        streams.push(Stream::new(bytes, Vec::from_slice(alloc, &[7, 20])?))?;
+    }
+    let bytes = Vec::from_slice(alloc, script.input)?;
+    let cuts = Vec::from_slice(alloc, &[3, 4, 17])?;
+    let input_fails = Vec::from_slice(alloc, script.input_fails)?;
+    let mut input = MemSource::new(alloc, bytes, cuts, input_fails);
+    let mut out = MemSink::new(
+        alloc,
+        script.most,
+        Vec::from_slice(alloc, script.out_fails)?,
+    );
+    let up_fails = Vec::from_slice(alloc, script.up_fails)?;
+    let mut up_wire = MemWire::new(alloc, streams, script.most, up_fails);
+    let (status, ended) = run(alloc, words.as_slice(), &mut input, &mut out, &mut up_wire);
+    let up = match up_wire.connections()? {
+        Some(up) => up,
+        None => Vec::new(alloc),
+    };
+    Ok(Outcome {
+        status,
+        ended,
+        out: Vec::from_slice(alloc, out.written())?,
+        up,
+    })
+}
+
+#[test]
+fn one_store_becomes_one_conditional_put(rt: HostRuntime) -> Result<(), Fail> {
+    let alloc = rt.alloc();
+    let want: &[u8] =
+        b"PUT /a HTTP/1.1\r\nHost: h\r\nUser-Agent: davsh/1\r\nAccept-Encoding: identity\r\nIf-None-Match: *\r\nContent-Length: 5\r\n\r\nhello";
+    let streams = [CREATED];
+    for most in [1, 7, 1024] {
+        let mut one = on_input(b"fput /a hello\n", streams.as_slice());
+        one.most = most;
+        let outcome = outcome_of(alloc, &one)?;
+        assert_eq!(rt; outcome.status, Status::Done);
+        assert!(rt; outcome.out.as_slice() == b"closed /a 5\n".as_slice());
+        assert!(rt; !outcome.ended.starved);
+        assert_eq!(rt; outcome.ended.done, 1);
+        assert!(rt; outcome.ended.queued.is_empty());
+        assert!(rt; outcome.ended.lost.is_empty());
+        assert_eq!(rt; outcome.up.len(), 1);
+        assert!(rt; outcome.up[0].sent.as_slice() == want);
+        assert!(rt; outcome.up[0].host.as_str() == "h");
+        assert_eq!(rt; outcome.up[0].port, 80);
+    }
+    Ok(())
+}
+
+#[test]
+fn only_the_last_store_of_a_path_is_sent(rt: HostRuntime) -> Result<(), Fail> {
+    let alloc = rt.alloc();
+    let streams = [CREATED];
+    let outcome = outcome_of(
+        alloc,
+        &on_input(b"fput /a one\nfput /a two\n", streams.as_slice()),
+    )?;
+    assert_eq!(rt; outcome.status, Status::Done);
+    assert!(rt; outcome.out.as_slice() == b"closed /a 3\nclosed /a 3\n".as_slice());
+    assert_eq!(rt; outcome.up.len(), 1);
+    assert!(rt; outcome.up[0].sent.as_slice().ends_with(b"\r\n\r\ntwo"));
+    Ok(())
+}
+
+#[test]
+fn what_the_server_did_not_take_stays_queued(rt: HostRuntime) -> Result<(), Fail> {
+    let alloc = rt.alloc();
+    let replies: [&[u8]; 6] = [
+        b"",
+        b"HTTP/1.1 201 Created\r\nContent-Length: 5\r\n\r\nshor",
+        b"HTTP/1.1 412 Precondition Failed\r\nContent-Length: 0\r\n\r\n",
+        b"HTTP/1.1 500 Internal Server Error\r\nContent-Length: 2\r\n\r\nno",
+        b"HTTP/1.1 201 Created\r\n\r\n",
+        b"no reply at all\r\n\r\n",
+    ];
+    for (at, reply) in replies.iter().enumerate() {
+        let streams = [*reply];
+        let outcome = outcome_of(alloc, &on_input(b"fput /a x\n", streams.as_slice()))?;
+        assert_eq!(rt; outcome.status, Status::Done, "at reply {at}");
+        assert!(rt; outcome.out.as_slice() == b"closed /a 1\nleft: queued 1 lost 0\n".as_slice());
+        assert_eq!(rt; outcome.ended.queued.len(), 1);
+        assert!(rt; outcome.ended.queued.bytes(0).as_slice() == b"x".as_slice());
+    }
+    let no_stream = outcome_of(alloc, &on_input(b"fput /a b c\nfput /a x\n", &[]))?;
+    assert_eq!(rt; no_stream.status, Status::Faults);
+    let want: &[u8] = b"fault: syntax early 0\nclosed /a 1\nleft: queued 1 lost 0\n";
+    assert!(rt; no_stream.out.as_slice() == want);
+    Ok(())
+}
+
+#[test]
+fn each_line_answers_by_itself(rt: HostRuntime) -> Result<(), Fail> {
+    let alloc = rt.alloc();
+    let cases: [(&[u8], &[u8], Status); 9] = [
+        (b"", b"", Status::Done),
+        (b"\n\r\n\n", b"", Status::Done),
+        (
+            b"fput /a x\r\n",
+            b"closed /a 1\nleft: queued 1 lost 0\n",
+            Status::Done,
+        ),
+        (
+            b"fput /a x",
+            b"closed /a 1\nleft: queued 1 lost 0\n",
+            Status::Done,
+        ),
+        (b"fput /a x\r", b"fault: syntax early 0\n", Status::Faults),
+        (b"fput /a\n", b"fault: syntax early 0\n", Status::Faults),
+        (b"fput  /a x\n", b"fault: syntax early 0\n", Status::Faults),
+        (
+            b"fput /\xff x\n",
+            b"fault: syntax early 0\n",
+            Status::Faults,
+        ),
+        (
+            b"fput /a \"x\"\n",
+            b"fault: syntax early 0\n",
+            Status::Faults,
+        ),
+    ];
+    for (at, (input, want, status)) in cases.iter().enumerate() {
+        let outcome = outcome_of(alloc, &on_input(input, &[]))?;
+        assert!(rt; outcome.out.as_slice() == *want, "at case {at}");
+        assert_eq!(rt; outcome.status, *status, "at case {at}");
+    }
+    Ok(())
+}
+
+#[test]
+fn a_line_of_a_megabyte_answers_its_fault(rt: HostRuntime) -> Result<(), Fail> {
+    let alloc = rt.alloc();
+    let mut input = Vec::from_slice(alloc, b"fput /a ")?;
+    for _ in 0..1_000_000 {
+        input.push(b'x')?;
+    }
+    input.extend_from_slice(b"\nfput /b y\n")?;
+    let outcome = outcome_of(alloc, &on_input(input.as_slice(), &[]))?;
+    let want: &[u8] = b"fault: syntax early 0\nclosed /b 1\nleft: queued 1 lost 0\n";
+    assert!(rt; outcome.out.as_slice() == want);
+    assert_eq!(rt; outcome.ended.done, 2);
+    Ok(())
+}
+
+#[test]
+fn a_failing_device_ends_the_run(rt: HostRuntime) -> Result<(), Fail> {
+    let alloc = rt.alloc();
+    let first = [0u64];
+    let mut source = on_input(b"fput /a x\n", &[]);
+    source.input_fails = first.as_slice();
+    let ended = outcome_of(alloc, &source)?;
+    assert_eq!(rt; ended.status, Status::Input);
+    assert!(rt; ended.out.as_slice() == b"end: input\n".as_slice());
+    let mut sink = on_input(b"fput /a x\n", &[]);
+    sink.out_fails = first.as_slice();
+    let ended = outcome_of(alloc, &sink)?;
+    assert_eq!(rt; ended.status, Status::Output);
+    assert_eq!(rt; ended.ended.queued.len(), 1);
+    assert_eq!(rt; ended.up.len(), 0);
+    Ok(())
+}
+
+#[test]
+fn other_words_are_refused(rt: HostRuntime) -> Result<(), Fail> {
+    let alloc = rt.alloc();
+    let refused: [&'static str; 8] = [
+        "",
+        "http:///",
+        "http://h",
+        "http://H/",
+        "https://h/",
+        "http://h/x",
+        "http://h:80/",
+        "http://aaaaaaaaaaaaaaaaaaaaaaaaaaaaaaaaaaaaaaaaaaaaaaaaaaaaaaaaaaaaaaaa/",
+    ];
+    for (at, word) in refused.iter().enumerate() {
+        let one = Script {
+            word,
+            ..on_input(b"fput /a x\n", &[])
+        };
+        let ended = outcome_of(alloc, &one)?;
+        assert_eq!(rt; ended.status, Status::Words, "at word {at}");
+        assert!(rt; ended.out.as_slice() == b"end: words\n".as_slice());
+    }
+    Ok(())
+}
