@@ -1,26 +1,25 @@
 -- The drain, step by step.
-use Rattle.std.proofs.Common.{◌≡◌, ◌<◌, ◌≤◌, ℕ, List, [], ◌∷◌, ◌++◌, Option, Some, None, Result, Ok, Err, Bool, true, false, refl, sym, ◌∙◌, ap, subst, arith, inl, inr, append-nil}
+use Rattle.std.proofs.Common.{◌≡◌, ◌<◌, ℕ, List, [], ◌++◌, Option, Result, Ok, Err, Bool, true, false, refl, sym, ◌∙◌, ap, subst, arith, inl, inr, append-nil}
 use Rattle.dav_machine.specs.Devices.{one_device}
-use Rattle.dav_machine.specs.Machine.{Run, run_with, give, prepend, Reaches}
-use Rattle.dav_machine.proofs.Logs.{grows_same}
+use Rattle.dav_machine.specs.Machine.{Run, run_with, give, prepend}
 use Rattle.dav_machine.proofs.Reaching.{reaches_as}
 use Rattle.dav_edge.specs.Device.{Answer, Happened, DeviceLog, Grew, ByteMachine}
 use Rattle.dav_edge.specs.Whole.{ReachesOn, DoesOn}
-use Rattle.dav_edge.proofs.Sending.{on_same, on_then}
+use Rattle.dav_edge.proofs.Sending.{on_same}
 use Rattle.dav_text.specs.declared.memory.Memory.{Memory}
-use Rattle.dav_desk.specs.Table.{Table, IsWithin, untaken, IsInFlight}
+use Rattle.dav_desk.specs.Table.{Table, IsWithin, untaken}
 use Rattle.dav_desk.specs.After.{after, IsStep, HasMemory}
 use Rattle.dav_desk.specs.declared.answer.Answer.{Answer as DeskAnswer}
-use Rattle.dav_desk.specs.declared.answer.Answer.TheVariants.{Closed, Took, Idle, Settled}
+use Rattle.dav_desk.specs.declared.answer.Answer.TheVariants.{Took, Idle}
 use Rattle.dav_desk.specs.declared.answer.Job.{Job}
 use Rattle.dav_desk.specs.declared.ask.Ask.{Ask}
 use Rattle.dav_desk.specs.declared.ask.Ask.TheVariants.{Take, Settle}
 use Rattle.dav_desk.specs.declared.ask.Done.{Done}
 use Rattle.dav_desk.specs.declared.fault.DeskFault.{DeskFault}
 use Rattle.dav_desk.specs.declared.fault.DeskFault.TheVariants as faults
-use Rattle.dav_desk.proofs.Laws.{refused_changes_nothing, take_answers, take_is_within, take_leaves_fewer, take_puts_in_flight, idle_changes_nothing, settle_answers, settle_is_not_refused, settle_leaves_no_more}
+use Rattle.dav_desk.proofs.Laws.{refused_changes_nothing, take_answers, take_leaves_fewer, take_puts_in_flight, idle_changes_nothing, settle_answers, settle_is_not_refused, settle_leaves_no_more}
 use Rattle.davsh.specs.Exchange.{Heard, Uploads}
-use Rattle.davsh.specs.Drain.{Drains, Turn, Starved, IsFlying, idle, memory, starved, turn, done_of}
+use Rattle.davsh.specs.Drain.{Drains, IsFlying, idle, memory, starved, turn, done_of}
 
 abbrev pub DrainMachine : Type 1
 DrainMachine = ByteMachine (Bool × Table)

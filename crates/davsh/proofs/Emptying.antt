@@ -1,26 +1,24 @@
 -- What the drain does to the files of the queue: each stays queued, or it was sent whole and the server took it.
-use Rattle.std.proofs.Common.{◌≡◌, ◌⊎◌, inl, inr, ℕ, List, [], ◌∷◌, ◌++◌, Option, Some, None, Result, Ok, Err, Bool, true, false, if◌then◌else◌, Contains, lit<, refl, sym, ◌∙◌, ap, subst}
+use Rattle.std.proofs.Common.{◌≡◌, ◌⊎◌, inl, inr, ℕ, List, [], ◌∷◌, ◌++◌, Option, Some, None, Ok, Err, Bool, true, false, if◌then◌else◌, Contains, lit<, refl, sym, ◌∙◌, ap, subst}
 use Rattle.std.proofs.lemmas.List.Elements.{Contains-append_left, Contains-append_right}
-use Rattle.dav_machine.specs.Devices.{one_device}
-use Rattle.dav_machine.specs.Machine.{Run, run_with, prepend, give}
+use Rattle.dav_machine.specs.Machine.{Run, run_with}
 use Rattle.dav_edge.specs.Device.{Answer, Happened}
-use Rattle.dav_edge.specs.Connections.{Connection, connection, Connections, with_standing, none_yet, all_of, after_calls, connections_of}
+use Rattle.dav_edge.specs.Connections.{Connection, connection, Connections, none_yet, all_of, after_calls}
 use Rattle.dav_edge.proofs.Connecting.{after_calls-append, begins_and_last, ended_after_calls}
 use Rattle.dav_text.specs.Path.{PathParts}
-use Rattle.dav_text.specs.declared.memory.Memory.{Memory}
 use Rattle.dav_text.specs.declared.method.Method.TheVariants.{Put}
 use Rattle.dav_frame.specs.declared.reader.Reply.{Reply}
 use Rattle.dav_frame.specs.Framing.{Framing, Gives as GivesReply}
 use Rattle.dav_desk.specs.Table.{Table, IsWithin, IsQueued, IsInFlight}
 use Rattle.dav_desk.specs.After.{after}
 use Rattle.dav_desk.specs.declared.answer.Answer.{Answer as DeskAnswer}
-use Rattle.dav_desk.specs.declared.answer.Answer.TheVariants.{Took, Settled}
+use Rattle.dav_desk.specs.declared.answer.Answer.TheVariants.{Settled}
 use Rattle.dav_desk.specs.declared.answer.Job.{Job}
 use Rattle.dav_desk.specs.declared.ask.Ask.TheVariants.{Settle}
 use Rattle.dav_desk.specs.declared.ask.Done.{Done}
 use Rattle.dav_desk.specs.declared.ask.Done.TheVariants as done
 use Rattle.dav_desk.proofs.Laws.{take_is_within, take_keeps_queued, take_loses_nothing, take_puts_in_flight, settle_is_within, sent_keeps_others, sent_loses_nothing, again_ends_flight_alone}
-use Rattle.davsh.specs.Exchange.{Heard, Uploads, sends, memory as no_memory, Exchanges, put_text, is_success}
+use Rattle.davsh.specs.Exchange.{Heard, Uploads, sends, memory as no_memory, put_text, is_success}
 use Rattle.davsh.specs.Drain.{Drains, Turn, Starved, idle, memory, starved, turn, done_of}
 use Rattle.davsh.specs.Kept.{WasPut}
 use Rattle.davsh.proofs.Putting.{Answered, exchange_replied}

@@ -1,11 +1,11 @@
 -- How the parts of a run join.
-use Rattle.std.proofs.Common.{◌≡◌, ℕ, List, [], ◌∷◌, ◌++◌, length, Bool, true, false, if◌then◌else◌, refl, sym, ◌∙◌, ap, subst}
+use Rattle.std.proofs.Common.{◌≡◌, ℕ, List, [], length, Bool, false, if◌then◌else◌, sym, subst}
 use Rattle.dav_machine.specs.Log.{any_failed}
 use Rattle.dav_machine.specs.Devices.{one_device}
-use Rattle.dav_machine.specs.Machine.{Run, give, and_then, Reaches, Does}
+use Rattle.dav_machine.specs.Machine.{give, and_then, Reaches, Does}
 use Rattle.dav_machine.proofs.Logs.{grows_same, grows_then}
 use Rattle.dav_machine.proofs.Reaching.{reaches_then, reaches_next, reaches_same, as_reaches, does_lifted}
-use Rattle.dav_edge.specs.Device.{Answer, Happened, DeviceLog, Grew, ByteMachine, given, is_failure}
+use Rattle.dav_edge.specs.Device.{Happened, DeviceLog, Grew, ByteMachine, given, is_failure}
 use Rattle.dav_edge.specs.Whole.{DoesOn, Sends}
 use Rattle.dav_desk.specs.Table.{Table}
 use Rattle.davsh.specs.declared.ended.Status.{Status}
@@ -13,11 +13,11 @@ use Rattle.davsh.specs.declared.ended.Status.TheVariants as status
 use Rattle.davsh.specs.declared.stop.Stop.{Stop}
 use Rattle.davsh.specs.declared.stop.Stop.TheVariants.{End, Input, Output}
 use Rattle.davsh.specs.Words.{IsBase, HasNoBase}
-use Rattle.davsh.specs.Shell.{State, state, fresh_state, Shell}
+use Rattle.davsh.specs.Shell.{State, fresh_state, Shell}
 use Rattle.davsh.specs.Carrying.{HeardEnd, ReadsAll}
 use Rattle.davsh.specs.Drain.{Drains}
 use Rattle.dav_machine.specs.Part.{lift}
-use Rattle.davsh.specs.Run.{Made, Answers, both, the_sink, the_wire, BothGrew, Ending, ending, with_table, without_memory, RunMachine, Says, words_end, input_end, memory_end, Starves, closing_status, left_text, Closes, tells, memory, after_drain, after_shell, RunsOn, Runs, refused, on, EndsSink, EndHeard, Ran}
+use Rattle.davsh.specs.Run.{both, the_sink, the_wire, BothGrew, Ending, ending, with_table, without_memory, RunMachine, Says, words_end, input_end, memory_end, Starves, closing_status, left_text, Closes, tells, memory, after_drain, after_shell, RunsOn, Runs, refused, on, EndsSink, EndHeard, Ran}
 
 pub both_then : (o p q u v w : DeviceLog) (f g h : RunMachine) → Reaches both (BothGrew o p u v) f g → Reaches both (BothGrew p q v w) g h → Reaches both (BothGrew o q u w) f h
 both_then o p q u v w f g h one two =

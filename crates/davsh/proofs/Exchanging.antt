@@ -1,12 +1,11 @@
 -- What each call does to the machines of an exchange.
-use Rattle.std.proofs.Common.{◌≡◌, ◌≢◌, ◌<◌, ◌≤◌, inl, inr, ℕ, List, [], ◌∷◌, ◌++◌, length, take, drop, Option, Some, None, Result, Ok, Err, Bool, true, false, is_ok, refl, sym, ◌∙◌, ap, subst, arith, append_assoc, append-nil, length-take}
+use Rattle.std.proofs.Common.{◌≡◌, ◌≢◌, ◌<◌, ◌≤◌, inl, inr, ℕ, List, [], ◌∷◌, ◌++◌, length, take, drop, Some, None, Ok, Err, true, false, sym, subst, arith, append_assoc, append-nil, length-take}
 use Rattle.std.proofs.lemmas.List.{drop_all}
 use Rattle.dav_machine.specs.Devices.{one_device}
-use Rattle.dav_machine.specs.Machine.{Run, give, Calls, and_then}
-use Rattle.dav_machine.proofs.Logs.{grows_same}
+use Rattle.dav_machine.specs.Machine.{Run, give, and_then}
 use Rattle.dav_machine.proofs.Reaching.{reaches_next, reaches_as, as_reaches}
 use Rattle.dav_edge.specs.declared.failed.Failed.{Failed}
-use Rattle.dav_edge.specs.Device.{Connect, Receive, Fails, Goes, Gives, Answer, Happened, happened, connected, received, shut_down, DeviceLog, Grew, ByteMachine, is_failure}
+use Rattle.dav_edge.specs.Device.{Connect, Receive, Fails, Goes, Gives, Answer, Happened, happened, connected, received, shut_down, DeviceLog, Grew, ByteMachine}
 use Rattle.dav_edge.specs.Whole.{ReachesOn, DoesOn, Sends}
 use Rattle.dav_edge.proofs.Sending.{on_same, on_then, on_call}
 use Rattle.dav_text.specs.declared.memory.Memory.{Memory}

@@ -1,15 +1,14 @@
 -- A whole run keeps what was closed last, and its status has its cause.
-use Rattle.std.proofs.Common.{◌≡◌, ◌⊎◌, inl, inr, ◌↔◌, ℕ, List, [], ◌∷◌, ◌++◌, map, length, Bool, true, false, not, ◌||◌, if◌then◌else◌, codes, IsTrue, refl, sym, ◌∙◌, ap, subst, append-nil}
+use Rattle.std.proofs.Common.{◌≡◌, ◌⊎◌, inl, inr, ◌↔◌, ℕ, List, [], ◌∷◌, ◌++◌, map, length, Bool, true, false, not, ◌||◌, if◌then◌else◌, codes, refl, sym, ◌∙◌, ap, subst, append-nil}
 use Rattle.dav_machine.specs.Log.{any_failed, Rose}
-use Rattle.dav_machine.specs.Devices.{one_device}
-use Rattle.dav_machine.specs.Machine.{Run, run_with, prepend, give, and_then, Follows}
-use Rattle.dav_machine.specs.Part.{lift, Lifted}
-use Rattle.dav_edge.specs.Device.{Answer, Happened, DeviceLog, Grew, ByteMachine, given, is_failure}
+use Rattle.dav_machine.specs.Machine.{Run, run_with, give, and_then}
+use Rattle.dav_machine.specs.Part.{lift}
+use Rattle.dav_edge.specs.Device.{Happened, DeviceLog, given, is_failure}
 use Rattle.dav_edge.specs.Whole.{Sends}
 use Rattle.dav_edge.proofs.Sending.{sent_so}
 use Rattle.dav_text.specs.Path.{PathParts}
 use Rattle.dav_desk.specs.Kept.{HoldsFile, files_of, lost_files_of}
-use Rattle.dav_desk.specs.Table.{Table, IsWithin, IsQueued, fresh_table}
+use Rattle.dav_desk.specs.Table.{Table, IsWithin, IsQueued}
 use Rattle.dav_desk.proofs.Laws.{fresh_is_within}
 use Rattle.davsh.specs.declared.ended.Status.{Status}
 use Rattle.davsh.specs.declared.ended.Status.TheVariants as status
@@ -17,13 +16,12 @@ use Rattle.davsh.specs.declared.stop.Stop.{Stop}
 use Rattle.davsh.specs.declared.stop.Stop.TheVariants as stops
 use Rattle.davsh.specs.Words.{IsBase, HasNoBase}
 use Rattle.davsh.specs.Line.{lines_of}
-use Rattle.davsh.specs.Shell.{State, fresh_state, Shell}
-use Rattle.davsh.specs.Drain.{Drains}
-use Rattle.davsh.specs.Run.{Made, Answers, calls_on, answers_of, both, the_sink, the_wire, BothGrew, Ending, ending, with_table, without_memory, Says, words_end, input_end, memory_end, Starves, closing_status, left_text, Closes, tells, memory, after_drain, after_shell, RunsOn, Runs, refused, on, Ran}
+use Rattle.davsh.specs.Shell.{State, fresh_state}
+use Rattle.davsh.specs.Run.{Made, Answers, answers_of, both, the_sink, BothGrew, Ending, ending, with_table, without_memory, Says, words_end, input_end, memory_end, Starves, closing_status, left_text, Closes, tells, memory, after_drain, after_shell, RunsOn, Runs, refused, on, Ran}
 use Rattle.davsh.specs.Kept.{Told, line_of, Walks, IsLastClose, WasPut, IsKept, AllRead, Keeps}
-use Rattle.davsh.proofs.Telling.{Tells, shell_told}
+use Rattle.davsh.proofs.Telling.{shell_told}
 use Rattle.davsh.proofs.Walking.{walk_keeps}
-use Rattle.davsh.proofs.Emptying.{Put1, put_first, was_put, drained}
+use Rattle.davsh.proofs.Emptying.{put_first, was_put, drained}
 
 abbrev EndRun : Type 0
 EndRun = Run Made Answers Ending
@@ -57,6 +55,7 @@ record EndsAs (st : State) (run : EndRun) : Type 0 where
   lost : run.result.1.lost ≡ lost_files_of st.table.lost
   done : run.result.1.done ≡ st.done
   starves : run.result.0 ≡ status.Memory → run.result.1.starved ≡ true
+  starved : st.starved ≡ true → run.result.1.starved ≡ true
 
 ends_as : (s : Status) (st : State) (run : EndRun) → (s ≡ status.Memory → st.starved ≡ true) → run.result ≡ ending s st → EndsAs st run
 ends_as s st run starved is = record {
@@ -64,6 +63,7 @@ ends_as s st run starved is = record {
   lost = ap (λ (e : Ending). e.1.lost) is;
   done = ap (λ (e : Ending). e.1.done) is;
   starves = λ m. ap (λ (e : Ending). e.1.starved) is ∙ starved (sym (ap (λ (e : Ending). e.0) is) ∙ m);
+  starved = λ h. ap (λ (e : Ending). e.1.starved) is ∙ h;
 }
 
 -- a last line on the sink
@@ -100,7 +100,7 @@ starved_end st answers run does =
     let is : run.result.0 ≡ status.Memory = ap (λ (e : Ending). e.0) said.result in
     let ends = ends_as status.Memory (without_memory st) run (λ m. refl) said.result in
     record {
-      ends = record { queued = ends.queued; lost = ends.lost; done = ends.done; starves = ends.starves };
+      ends = record { queued = ends.queued; lost = ends.lost; done = ends.done; starves = ends.starves; starved = λ h. ap (λ (e : Ending). e.1.starved) said.result };
       not_words = λ h. let x : status.Memory ≡ status.Words = sym is ∙ h in cc;
       not_input = λ h. let x : status.Memory ≡ status.Input = sym is ∙ h in cc;
       output = λ h. let x : status.Memory ≡ status.Output = sym is ∙ h in absurd (cc);
@@ -152,6 +152,7 @@ drained_end st false answers run does = starved_end st answers run does
 record AfterShell (host : List ℕ) (stop : Stop) (st : State) (run : EndRun) : Type 0 where
   kept : (path : PathParts) (bytes : List ℕ) → IsQueued st.table path bytes → IsKept host path bytes run.result.1 run.made.up
   done : run.result.1.done ≡ st.done
+  starved : st.starved ≡ true → run.result.1.starved ≡ true
   starves : run.result.0 ≡ status.Memory → run.result.1.starved ≡ true
   not_words : run.result.0 ≡ status.Words → ⊥
   input : run.result.0 ≡ status.Input → stop ≡ stops.Input
@@ -164,6 +165,7 @@ stopped host stop st s run result not_memory not_words input output read =
     let is : run.result.0 ≡ s = ap (λ (e : Ending). e.0) result in record {
       kept = λ path bytes queued. inl (subst (λ (e : Ending). HoldsFile e.1.queued path bytes) (sym result) queued);
       done = ap (λ (e : Ending). e.1.done) result;
+      starved = λ h. ap (λ (e : Ending). e.1.starved) result ∙ h;
       starves = λ h. absurd (not_memory (sym is ∙ h));
       not_words = λ h. not_words (sym is ∙ h);
       input = λ h. input (sym is ∙ h);
@@ -191,6 +193,7 @@ emptied host st answers run within does =
         | inr put ↦ inr (inr (subst (λ (l : List Happened). WasPut host path bytes l) (sym up) (was_put host path bytes (below.made ++ does.after.made.up) (put_first host path bytes below.made does.after.made.up put))))
       ];
       done = ap (λ (e : Ending). e.1.done) result ∙ end.ends.done;
+      starved = λ h. ap (λ (e : Ending). e.1.starved) result ∙ end.ends.starved h;
       starves = λ h. ap (λ (e : Ending). e.1.starved) result ∙ end.ends.starves (sym status_is ∙ h);
       not_words = λ h. end.not_words (sym status_is ∙ h);
       input = λ h. absurd (end.not_input (sym status_is ∙ h));
@@ -220,6 +223,7 @@ record Outcome (words : List (List ℕ)) (bytes : List ℕ) (failed : Bool) (run
   input : run.result.0 ≡ status.Input → failed ≡ true
   output : run.result.0 ≡ status.Output → any_failed is_failure run.made.out ≡ true
   starves : run.result.0 ≡ status.Memory → run.result.1.starved ≡ true
+  starved : last.starved ≡ true → run.result.1.starved ≡ true
 
 refused_outcome : (words : List (List ℕ)) (bytes : List ℕ) (failed : Bool) (answers : Answers) (run : EndRun) → HasNoBase words → Says words_end (ending status.Words fresh_state) answers run → Outcome words bytes failed run
 refused_outcome words bytes failed answers run none does =
@@ -237,6 +241,7 @@ refused_outcome words bytes failed answers run none does =
       input = λ h. let x : status.Words ≡ status.Input = sym is ∙ h in absurd (cc);
       output = λ h. let x : status.Words ≡ status.Output = sym is ∙ h in absurd (cc);
       starves = λ h. let x : status.Words ≡ status.Memory = sym is ∙ h in absurd (cc);
+      starved = λ h. let x : false ≡ true = h in absurd (cc);
     }
 
 nothing_last : (a : List ℕ) → a ++ 47 ∷ [] ≡ [] → ⊥
@@ -292,6 +297,7 @@ on_outcome words host bytes failed answers run base does =
         | inr later ↦ ap (any_failed is_failure) out ∙ any_later below.made does.after.made.out later
       ];
       starves = λ h. ap (λ (e : Ending). e.1.starved) result ∙ end.starves (sym status_is ∙ h);
+      starved = λ h. ap (λ (e : Ending). e.1.starved) result ∙ end.starved h;
     }
 
 outcome : (words : List (List ℕ)) (bytes : List ℕ) (failed : Bool) (answers : Answers) (run : EndRun) → Runs words bytes failed answers run → Outcome words bytes failed run
@@ -331,6 +337,7 @@ keeps words s0 s1 o p u v end ran =
       all = all_read end.0 all.rest all.all;
       answered = all.answered;
       done = all.done;
+      starved = all.starved;
       kept = all.kept;
     }
 

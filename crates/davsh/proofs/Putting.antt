@@ -1,17 +1,17 @@
 -- What an exchange that gave the status of a reply made on its wire: one connection, on which the whole text was
 -- sent and a whole reply came.
-use Rattle.std.proofs.Common.{◌≡◌, ◌⊎◌, inl, inr, ℕ, List, [], ◌∷◌, ◌++◌, Option, Some, None, Result, Ok, Err, Bool, true, false, Contains, refl, sym, ◌∙◌, ap, subst, append-nil, append_assoc}
+use Rattle.std.proofs.Common.{◌≡◌, ℕ, List, [], ◌∷◌, ◌++◌, Some, None, Ok, Err, Bool, true, false, refl, sym, ◌∙◌, ap, subst, append_assoc}
 use Rattle.dav_machine.specs.Devices.{one_device}
-use Rattle.dav_machine.specs.Machine.{Run, run_with, prepend, give, Calls, Follows}
+use Rattle.dav_machine.specs.Machine.{Run, run_with, prepend, give, Follows}
 use Rattle.dav_edge.specs.Device.{Connect, Receive, Fails, Goes, Takes, Gives, Answer, Happened, happened, shut_down, taken}
-use Rattle.dav_edge.specs.Connections.{Connection, connection, Connections, with_standing, and_last, all_of, sending, receiving, after_call, after_calls}
+use Rattle.dav_edge.specs.Connections.{Connection, connection, Connections, with_standing, all_of, sending, receiving, after_calls}
 use Rattle.dav_edge.specs.Whole.{Sends}
 use Rattle.dav_edge.proofs.Connecting.{after_calls-append}
 use Rattle.dav_edge.proofs.Sending.{sent_so, sends_standing}
 use Rattle.dav_text.specs.declared.memory.Memory.{Memory}
 use Rattle.dav_text.specs.declared.method.Method.TheVariants.{Put}
 use Rattle.dav_frame.specs.declared.reader.Reply.{Reply}
-use Rattle.dav_frame.specs.Framing.{Framing, Gives as GivesReply, Short}
+use Rattle.dav_frame.specs.Framing.{Framing, Gives as GivesReply}
 use Rattle.davsh.specs.Exchange.{Heard, Judged, whole, broken, short, memory, Hears, hears_if, Talks, Shuts, Exchanges}
 
 abbrev HeardRun : Type 0

@@ -1,10 +1,9 @@
 -- What a run of the shell tells: its lines, one after another, with their answers.
-use Rattle.std.proofs.Common.{◌≡◌, ◌≢◌, ◌⊎◌, inl, inr, ℕ, List, [], ◌∷◌, ◌++◌, map, Bool, true, false, not, MatchBool, if◌then◌else◌, ◌==◌, ◌||◌, refl, sym, ◌∙◌, ap, subst, append-nil}
+use Rattle.std.proofs.Common.{◌≡◌, inl, inr, ℕ, List, [], ◌∷◌, ◌++◌, map, Bool, true, false, not, MatchBool, if◌then◌else◌, ◌==◌, ◌||◌, refl, sym, ◌∙◌, ap, subst, append-nil}
 use Rattle.dav_machine.specs.Log.{any_failed}
 use Rattle.dav_machine.specs.Devices.{one_device}
-use Rattle.dav_machine.specs.Machine.{Run, run_with, prepend, give, and_then, Follows}
+use Rattle.dav_machine.specs.Machine.{Run, run_with, prepend, give, and_then}
 use Rattle.dav_edge.specs.Device.{Answer, Happened, ByteMachine, is_failure}
-use Rattle.dav_edge.specs.Whole.{Sends}
 use Rattle.dav_edge.proofs.Sending.{sent_so}
 use Rattle.davsh.specs.declared.stop.Stop.{Stop}
 use Rattle.davsh.specs.declared.stop.Stop.TheVariants.{End, Input, Output}

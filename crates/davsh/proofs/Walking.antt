@@ -1,16 +1,15 @@
 -- What was closed last stays queued while the lines are carried out.
-use Rattle.std.proofs.Common.{◌≡◌, ◌≢◌, ◌⊎◌, inl, inr, ℕ, List, [], ◌∷◌, ◌++◌, length, Bool, true, false, Result, Ok, Err, refl, sym, ◌∙◌, ap, subst, arith}
+use Rattle.std.proofs.Common.{◌≡◌, inl, inr, ℕ, List, [], ◌∷◌, length, Ok, refl, sym, ◌∙◌, ap, subst, arith}
 use Rattle.dav_text.specs.Path.{PathParts}
 use Rattle.dav_text.specs.declared.which.Which.{Which}
-use Rattle.dav_text.specs.declared.which.Which.TheVariants as limits
-use Rattle.dav_desk.specs.Kept.{KeptFile, IsFile, HoldsFile}
+use Rattle.dav_desk.specs.Kept.{KeptFile, HoldsFile}
 use Rattle.dav_desk.specs.Table.{Table, IsWithin, IsQueued}
 use Rattle.dav_desk.specs.After.{after}
 use Rattle.dav_desk.specs.declared.answer.Answer.{Answer as DeskAnswer}
 use Rattle.dav_desk.specs.declared.ask.Ask.TheVariants.{Store}
 use Rattle.dav_desk.proofs.Laws.{store_queues, store_keeps_others, store_is_within, store_loses_nothing}
 use Rattle.davsh.specs.Line.{IsPut}
-use Rattle.davsh.specs.Shell.{State, counted, closed_line, syntax_line, memory_line, limit_line, Answered, nothing, syntax, closed, limit, memory}
+use Rattle.davsh.specs.Shell.{State, counted, closed_line, limit_line, Answered, nothing, syntax, closed, limit, memory}
 use Rattle.davsh.specs.Kept.{Told, Walks, IsClose, NoClose, IsLastClose}
 use Rattle.davsh.proofs.PutLines.{put_unique}
 

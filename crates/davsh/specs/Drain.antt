@@ -1,5 +1,5 @@
 -- The drain: each queued file is sent once.
-use Rattle.std.specs.Prelude.{◌≡◌, ℕ, List, Bool, true, false, Option, Some, None, Result, Ok, Err, if◌then◌else◌}
+use Rattle.std.specs.Prelude.{◌≡◌, ℕ, List, Bool, true, false, Option, Some, None, Ok, Err, if◌then◌else◌}
 use Rattle.dav_machine.specs.Devices.{one_device}
 use Rattle.dav_machine.specs.Machine.{Run, give, run_with, prepend}
 use Rattle.dav_edge.specs.Device.{Answer, Happened}

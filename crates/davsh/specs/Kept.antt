@@ -1,6 +1,5 @@
 -- What a caller of a run may rely on.
-use Rattle.std.specs.Prelude.{◌≡◌, ◌≢◌, ◌⊎◌, ℕ, List, [], ◌∷◌, ◌++◌, map, length, Contains, true}
-use Rattle.dav_machine.specs.Log.{any_failed}
+use Rattle.std.specs.Prelude.{◌≡◌, ◌⊎◌, ℕ, List, [], ◌∷◌, ◌++◌, map, length, Contains, true}
 use Rattle.dav_edge.specs.Device.{Happened, DeviceLog, Grew, given}
 use Rattle.dav_edge.specs.Connections.{Connection, connections_of}
 use Rattle.dav_text.specs.declared.method.Method.TheVariants.{Put}
@@ -90,5 +89,6 @@ pub record Keeps (words : List (List ℕ)) (source_old source_new out_old out_ne
   pub all : AllRead end.0 rest
   pub answered : Walks fresh_state told last
   pub done : last.done ≡ end.1.done
+  pub starved : last.starved ≡ true → end.1.starved ≡ true
   pub kept : (host : List ℕ) → IsBase words host → (path : PathParts) (bytes : List ℕ)
       → IsLastClose told path bytes → IsKept host path bytes end.1 made.up

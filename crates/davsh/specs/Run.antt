@@ -1,14 +1,14 @@
 -- A whole run of the program, from its words, the input and the answers of the sink and the wire.
-use Rattle.std.specs.Prelude.{◌≡◌, ℕ, zero, List, [], ◌++◌, map, length, codes, decimal, Bool, true, false, if◌then◌else◌, refl}
+use Rattle.std.specs.Prelude.{ℕ, zero, List, [], ◌++◌, length, codes, decimal, Bool, true, false, if◌then◌else◌, refl}
 use Rattle.std.proofs.Common.{append_assoc, append-nil, ap, ◌∙◌}
 use Rattle.dav_machine.specs.Log.{any_failed}
 use Rattle.dav_machine.specs.Devices.{Devices, one_device, answers_before, answers_before-append}
-use Rattle.dav_machine.specs.Machine.{Run, Machine, give, and_then, Reaches, Does}
+use Rattle.dav_machine.specs.Machine.{Run, Machine, give, and_then, Does}
 use Rattle.dav_machine.specs.Part.{Part, lift}
-use Rattle.dav_edge.specs.Device.{Call, Answer, Happened, DeviceLog, Grew, ByteMachine, given, is_failure}
+use Rattle.dav_edge.specs.Device.{Call, Answer, Happened, DeviceLog, Grew, given, is_failure}
 use Rattle.dav_edge.specs.Whole.{Sends}
 use Rattle.dav_desk.specs.Table.{Table}
-use Rattle.dav_desk.specs.Kept.{KeptFile, files_of, lost_files_of}
+use Rattle.dav_desk.specs.Kept.{files_of, lost_files_of}
 use Rattle.davsh.specs.declared.ended.Ended.{Ended}
 use Rattle.davsh.specs.declared.ended.Status.{Status}
 use Rattle.davsh.specs.declared.ended.Status.TheVariants as status

@@ -1,4 +1,4 @@
-use Rattle.std.proofs.Common.{rules, ◌++◌, take, [], Ok, None, refl}
+use Rattle.std.proofs.Common.{◌++◌, take, [], Ok, None, refl}
 use Rattle.dav_machine.specs.Devices.{one_device}
 use Rattle.dav_machine.specs.Machine.{give}
 use Rattle.dav_edge.proofs.Sending.{on_same, on_then}

@@ -1,4 +1,3 @@
-use Rattle.std.proofs.Common.{rules}
 use Rattle.davsh.proofs.Exchanging.{talks_sent, talks_failed}
 use Rattle.davsh.proofs.exchange.talk.Goals as goal
 

@@ -1,7 +1,5 @@
-use Rattle.std.proofs.Common.{Bool, true, false, subst}
-use Rattle.dav_edge.specs.Whole.{DoesOn}
+use Rattle.std.proofs.Common.{true, false}
 use Rattle.davsh.specs.Said.{state_of}
-use Rattle.davsh.specs.Drain.{Drains}
 use Rattle.davsh.proofs.Ending.{finishes}
 use Rattle.davsh.proofs.whole.finish.Goals as goal
 
