@@ -1,5 +1,6 @@
--- What the drain does to the files of the queue: each stays queued, or it was sent whole and the server took it.
-use Rattle.std.proofs.Common.{◌≡◌, ◌⊎◌, inl, inr, ℕ, List, [], ◌∷◌, ◌++◌, Option, Some, None, Ok, Err, Bool, true, false, if◌then◌else◌, Contains, lit<, refl, sym, ◌∙◌, ap, subst}
+-- What the drain does to the files of the queue: each stays queued, or is lost, or it was sent whole and the server
+-- took it.
+use Rattle.std.proofs.Common.{◌≡◌, ◌⊎◌, inl, inr, ℕ, List, [], ◌∷◌, ◌++◌, Option, Some, None, Ok, Err, Bool, true, false, if◌then◌else◌, nat_eq, Contains, lit<, refl, sym, ◌∙◌, ap, subst}
 use Rattle.std.proofs.lemmas.List.Elements.{Contains-append_left, Contains-append_right}
 use Rattle.dav_machine.specs.Machine.{Run, run_with}
 use Rattle.dav_edge.specs.Device.{Answer, Happened}
@@ -9,16 +10,18 @@ use Rattle.dav_text.specs.Path.{PathParts}
 use Rattle.dav_text.specs.declared.method.Method.TheVariants.{Put}
 use Rattle.dav_frame.specs.declared.reader.Reply.{Reply}
 use Rattle.dav_frame.specs.Framing.{Framing, Gives as GivesReply}
-use Rattle.dav_desk.specs.Table.{Table, IsWithin, IsQueued, IsInFlight}
+use Rattle.dav_desk.specs.Table.{Table, IsWithin, IsQueued, IsLost, IsInFlight}
+use Rattle.dav_desk.specs.Kept.{HoldsFile, lost_files_of}
 use Rattle.dav_desk.specs.After.{after}
+use Rattle.dav_desk.specs.declared.entry.LostFile.{LostFile}
 use Rattle.dav_desk.specs.declared.answer.Answer.{Answer as DeskAnswer}
 use Rattle.dav_desk.specs.declared.answer.Answer.TheVariants.{Settled}
 use Rattle.dav_desk.specs.declared.answer.Job.{Job}
 use Rattle.dav_desk.specs.declared.ask.Ask.TheVariants.{Settle}
 use Rattle.dav_desk.specs.declared.ask.Done.{Done}
 use Rattle.dav_desk.specs.declared.ask.Done.TheVariants as done
-use Rattle.dav_desk.proofs.Laws.{take_is_within, take_keeps_queued, take_loses_nothing, take_puts_in_flight, settle_is_within, sent_keeps_others, sent_loses_nothing, again_ends_flight_alone}
-use Rattle.davsh.specs.Exchange.{Heard, Uploads, sends, memory as no_memory, put_text, is_success}
+use Rattle.dav_desk.proofs.Laws.{take_is_within, take_keeps_queued, take_loses_nothing, take_puts_in_flight, settle_is_within, settle_keeps_lost, sent_keeps_others, again_ends_flight_alone, refused_keeps_all}
+use Rattle.davsh.specs.Exchange.{Heard, Uploads, sends, memory as no_memory, put_text, is_success, asks_again}
 use Rattle.davsh.specs.Drain.{Drains, Turn, Starved, idle, memory, starved, turn, done_of}
 use Rattle.davsh.specs.Kept.{WasPut}
 use Rattle.davsh.proofs.Putting.{Answered, exchange_replied}
@@ -94,95 +97,104 @@ put_answered host path bytes named status events same answered success =
       success = ap is_success answered.is ∙ success;
     }
 
--- each file of the queue stays there, or was sent
+-- the file is queued, or lost, or was sent
+abbrev pub IsSafe : List ℕ → PathParts → List ℕ → Table → List Happened → Type 0
+IsSafe host path bytes now events = IsQueued now path bytes ⊎ (IsLost now path bytes ⊎ Put1 host path bytes events)
+
+-- each file of the queue stays there, or is lost now, or was sent; what was lost stays lost
 record Empties (host : List ℕ) (before now : Table) (events : List Happened) : Type 0 where
   within : IsWithin now
-  lost : now.lost ≡ before.lost
-  each : (path : PathParts) (bytes : List ℕ) → IsQueued before path bytes → IsQueued now path bytes ⊎ Put1 host path bytes events
+  lost : (path : PathParts) (bytes : List ℕ) → IsLost before path bytes → IsLost now path bytes
+  each : (path : PathParts) (bytes : List ℕ) → IsQueued before path bytes → IsSafe host path bytes now events
 
 empties_same : (host : List ℕ) (t : Table) (events : List Happened) → IsWithin t → Empties host t t events
-empties_same host t events within = record { within = within; lost = refl; each = λ path bytes queued. inl queued }
+empties_same host t events within = record { within = within; lost = λ path bytes gone. gone; each = λ path bytes queued. inl queued }
+
+-- the same file, under the same segments
+put_as : (host : List ℕ) (from path : PathParts) (sent bytes : List ℕ) (events : List Happened) → (from.segments ≡ path.segments) × (sent ≡ bytes) → Put1 host from sent events → Put1 host path bytes events
+put_as host from path sent bytes events is one = record {
+  connection = one.connection;
+  ended = one.ended;
+  to_host = one.to_host;
+  to_port = one.to_port;
+  named = one.named;
+  same = one.same ∙ is.0;
+  sent = one.sent ∙ ap (put_text host one.named) is.1;
+  reply = one.reply;
+  rest = one.rest;
+  received = one.received;
+  success = one.success;
+}
 
 -- a job that ended as this, where something may have been heard
 settled_by : (host : List ℕ) (taken now : Table) (job : Job) (a : DeskAnswer) (events : List Happened) (d : Done) → IsWithin taken → IsInFlight taken job → after taken (Settle job.number d) ≡ (now, Ok a)
-    → (d ≡ done.Refused → ⊥) → (d ≡ done.Sent → Put1 host job.path job.bytes events) → Empties host taken now events
-settled_by host taken now job a events done.Sent within flight settles other put = record {
-  within = settle_is_within taken job.number done.Sent now a within settles;
-  lost = sent_loses_nothing taken job.number now a settles;
-  each = λ path bytes queued. elim (sent_keeps_others taken job now a flight settles path bytes queued) [
-    | inl stays ↦ inl stays
-    | inr is ↦
-        let one = put refl in
-        inr (record {
-          connection = one.connection;
-          ended = one.ended;
-          to_host = one.to_host;
-          to_port = one.to_port;
-          named = one.named;
-          same = one.same ∙ is.0;
-          sent = one.sent ∙ ap (put_text host one.named) is.1;
-          reply = one.reply;
-          rest = one.rest;
-          received = one.received;
-          success = one.success;
-        })
-  ];
+    → (d ≡ done.Sent → Put1 host job.path job.bytes events) → Empties host taken now events
+settled_by host taken now job a events d within flight settles put = record {
+  within = settle_is_within taken job.number d now a within settles;
+  lost = settle_keeps_lost taken job.number d now a settles;
+  each = each d settles put;
 }
-settled_by host taken now job a events done.Again within flight settles other put =
-    let is = again_ends_flight_alone taken job.number now a settles in record {
-      within = settle_is_within taken job.number done.Again now a within settles;
-      lost = ap (λ (t : Table). t.lost) is;
-      each = λ path bytes queued. inl (subst (λ (t : Table). IsQueued t path bytes) (sym is) queued);
-    }
-settled_by host taken now job a events done.Refused within flight settles other put = absurd (other refl)
+  where
+    each : (d : Done) → after taken (Settle job.number d) ≡ (now, Ok a) → (d ≡ done.Sent → Put1 host job.path job.bytes events) → (path : PathParts) (bytes : List ℕ) → IsQueued taken path bytes → IsSafe host path bytes now events
+    each done.Sent settles put path bytes queued =
+        elim (sent_keeps_others taken job now a flight settles path bytes queued) [
+          | inl stays ↦ inl stays
+          | inr is ↦ inr (inr (put_as host job.path path job.bytes bytes events is (put refl)))
+        ]
+    each done.Again settles put path bytes queued =
+        inl (subst (λ (t : Table). IsQueued t path bytes) (sym (again_ends_flight_alone taken job.number now a settles)) queued)
+    each done.Refused settles put path bytes queued =
+        elim (refused_keeps_all taken job now a flight settles path bytes queued) [
+          | inl stays ↦ inl stays
+          | inr gone ↦ inr (inl gone)
+        ]
 
-not_refused_by : (success : Bool) → (if success then done.Sent else done.Again) ≡ done.Refused → ⊥
-not_refused_by true is = cc
-not_refused_by false is = cc
-
-not_refused : (came : Option ℕ) → done_of came ≡ done.Refused → ⊥
-not_refused None is = cc
-not_refused (Some status) is = not_refused_by (is_success status) is
-
-success_by : (success : Bool) → (if success then done.Sent else done.Again) ≡ done.Sent → success ≡ true
-success_by true is = refl
-success_by false is = cc
+success_by : (login success again : Bool) → (if login then done.Again else (if success then done.Sent else (if again then done.Again else done.Refused))) ≡ done.Sent → success ≡ true
+success_by true success again is = cc
+success_by false true again is = refl
+success_by false false true is = cc
+success_by false false false is = cc
 
 put_by : (host : List ℕ) (path : PathParts) (bytes : List ℕ) (answers : List Answer) (sent : HeardRun) (came : Option ℕ) → Uploads host path bytes answers sent → sent.result ≡ Ok came → done_of came ≡ done.Sent → Put1 host path bytes sent.made
 put_by host path bytes answers sent None (sends exchange) heard is = cc
 put_by host path bytes answers sent (Some status) (sends exchange) heard is =
-    put_answered host path bytes path status sent.made refl (exchange_replied host (put_text host path bytes) status answers sent exchange heard) (success_by (is_success status) is)
+    put_answered host path bytes path status sent.made refl (exchange_replied host (put_text host path bytes) status answers sent exchange heard) (success_by (nat_eq 401 status) (is_success status) (asks_again status) is)
 put_by host path bytes answers sent came (no_memory want gives) heard is =
     let h : Err want ≡ Ok came = sym (ap (λ (r : HeardRun). r.result) gives) ∙ heard in cc
+
+lost_as_before : (before now : Table) → now.lost ≡ before.lost → (path : PathParts) (bytes : List ℕ) → IsLost before path bytes → IsLost now path bytes
+lost_as_before before now is path bytes gone = subst (λ (l : List LostFile). HoldsFile (lost_files_of l) path bytes) (sym is) gone
 
 empties_turn : (host : List ℕ) (before now : Table) (answers : List Answer) (sent : HeardRun) → IsWithin before → Turn host before answers now sent → Empties host before now sent.made
 empties_turn host before now answers sent within t =
     let job = t.job in
     let settled = settled_by host t.taken now job (Settled t.fated) sent.made (done_of t.came) (take_is_within before t.taken job within t.takes)
-    (take_puts_in_flight before t.taken job within t.takes) t.settles (not_refused t.came)
+    (take_puts_in_flight before t.taken job within t.takes) t.settles
     (put_by host job.path job.bytes answers sent t.came t.uploads t.heard) in record {
       within = settled.within;
-      lost = settled.lost ∙ take_loses_nothing before t.taken job t.takes;
+      lost = λ path bytes gone. settled.lost path bytes (lost_as_before before t.taken (take_loses_nothing before t.taken job t.takes) path bytes gone);
       each = λ path bytes queued. settled.each path bytes (take_keeps_queued before t.taken job t.takes path bytes queued);
     }
 
 empties_then : (host : List ℕ) (a b c : Table) (es fs : List Happened) → Empties host a b es → Empties host b c fs → Empties host a c (es ++ fs)
 empties_then host a b c es fs one two = record {
   within = two.within;
-  lost = two.lost ∙ one.lost;
+  lost = λ path bytes gone. two.lost path bytes (one.lost path bytes gone);
   each = λ path bytes queued. elim (one.each path bytes queued) [
     | inl stays ↦ elim (two.each path bytes stays) [
       | inl still ↦ inl still
-      | inr later ↦ inr (put_later host path bytes es fs later)
+      | inr (inl gone) ↦ inr (inl gone)
+      | inr (inr later) ↦ inr (inr (put_later host path bytes es fs later))
     ]
-    | inr first ↦ inr (put_first host path bytes es fs first)
+    | inr (inl gone) ↦ inr (inl (two.lost path bytes gone))
+    | inr (inr first) ↦ inr (inr (put_first host path bytes es fs first))
   ];
 }
 
 empties_starved : (host : List ℕ) (before now : Table) (answers : List Answer) (sent : HeardRun) → IsWithin before → Starved host before answers now sent → Empties host before now sent.made
 empties_starved host before now answers sent within s = record {
   within = take_is_within before now s.job within s.takes;
-  lost = take_loses_nothing before now s.job s.takes;
+  lost = lost_as_before before now (take_loses_nothing before now s.job s.takes);
   each = λ path bytes queued. inl (take_keeps_queued before now s.job s.takes path bytes queued);
 }
 
@@ -220,8 +232,8 @@ was_put host path bytes events one = record {
 
 -- what a drain leaves of the queue
 pub record Drained (host : List ℕ) (before now : Table) (events : List Happened) : Type 0 where
-  pub lost : now.lost ≡ before.lost
-  pub each : (path : PathParts) (bytes : List ℕ) → IsQueued before path bytes → IsQueued now path bytes ⊎ Put1 host path bytes events
+  pub lost : (path : PathParts) (bytes : List ℕ) → IsLost before path bytes → IsLost now path bytes
+  pub each : (path : PathParts) (bytes : List ℕ) → IsQueued before path bytes → IsSafe host path bytes now events
 
 pub drained : (host : List ℕ) (before : Table) (answers : List Answer) (run : DrainRun) → IsWithin before → Drains host before answers run → Drained host before run.result.1 run.made
 drained host before answers run within does =

@@ -18,12 +18,12 @@ use Rattle.davsh.specs.Words.{IsBase, HasNoBase}
 use Rattle.davsh.specs.Line.{lines_of}
 use Rattle.davsh.specs.Shell.{State, fresh_state}
 use Rattle.davsh.specs.Run.{Made, Answers, answers_of, both, the_sink, BothGrew, Ending, ending, with_table, without_memory, Says, words_end, input_end, memory_end, Starves, closing_status, left_text, Closes, tells, memory, after_drain, after_shell, RunsOn, Runs, refused, on, Ran}
-use Rattle.davsh.specs.Kept.{Told, line_of, Walks, IsLastClose, WasPut, IsKept, AllRead, Keeps}
+use Rattle.davsh.specs.Kept.{Told, line_of, Walks, IsLastClose, WasPut, IsKept, FaultsTold, AllRead, Keeps}
 use Rattle.davsh.proofs.Telling.{shell_told}
-use Rattle.davsh.proofs.Walking.{walk_keeps}
+use Rattle.davsh.proofs.Walking.{walk_keeps, WalkFaults, walk_faults}
 use Rattle.davsh.proofs.Emptying.{put_first, was_put, drained}
 
-abbrev EndRun : Type 0
+abbrev pub EndRun : Type 0
 EndRun = Run Made Answers Ending
 
 or_true : (a b : Bool) → b ≡ true → (a || b) ≡ true
@@ -49,13 +49,23 @@ is_read status.Faults = true
 is_read status.Memory = true
 is_read _ = false
 
+-- whether the state is faulty, where the status tells it
+abbrev IsTold : Status → Bool → Type 0
+IsTold status.Done faulty = faulty ≡ false
+IsTold status.Faults faulty = faulty ≡ true
+IsTold _ faulty = Unit {0}
+
+closing_told : (faulty : Bool) → IsTold (if faulty then status.Faults else status.Done) faulty
+closing_told true = refl
+closing_told false = refl
+
 -- How a run ends behind a state: what is queued and lost then, and why.
-record EndsAs (st : State) (run : EndRun) : Type 0 where
-  queued : run.result.1.queued ≡ files_of st.table.queued
-  lost : run.result.1.lost ≡ lost_files_of st.table.lost
-  done : run.result.1.done ≡ st.done
-  starves : run.result.0 ≡ status.Memory → run.result.1.starved ≡ true
-  starved : st.starved ≡ true → run.result.1.starved ≡ true
+pub record EndsAs (st : State) (run : EndRun) : Type 0 where
+  pub queued : run.result.1.queued ≡ files_of st.table.queued
+  pub lost : run.result.1.lost ≡ lost_files_of st.table.lost
+  pub done : run.result.1.done ≡ st.done
+  pub starves : run.result.0 ≡ status.Memory → run.result.1.starved ≡ true
+  pub starved : st.starved ≡ true → run.result.1.starved ≡ true
 
 ends_as : (s : Status) (st : State) (run : EndRun) → (s ≡ status.Memory → st.starved ≡ true) → run.result ≡ ending s st → EndsAs st run
 ends_as s st run starved is = record {
@@ -67,12 +77,12 @@ ends_as s st run starved is = record {
 }
 
 -- a last line on the sink
-record Said (end : Bool → Ending) (run : EndRun) : Type 0 where
-  all : Bool
-  result : run.result ≡ end all
-  failed : all ≡ false → any_failed is_failure run.made.out ≡ true
+pub record Said (end : Bool → Ending) (run : EndRun) : Type 0 where
+  pub all : Bool
+  pub result : run.result ≡ end all
+  pub failed : all ≡ false → any_failed is_failure run.made.out ≡ true
 
-says : (line : List ℕ) (end : Bool → Ending) (answers : Answers) (run : EndRun) → and_then both (lift the_sink (Sends line)) (λ all. give both (end all)) answers run → Said end run
+pub says : (line : List ℕ) (end : Bool → Ending) (answers : Answers) (run : EndRun) → and_then both (lift the_sink (Sends line)) (λ all. give both (end all)) answers run → Said end run
 says line end answers run does =
     let below = does.begins.below in
     let first : does.before.result ≡ below.result = ap (λ (r : Run Made Answers Bool). r.result) does.begins.is in
@@ -88,11 +98,15 @@ says line end answers run does =
     }
 
 -- the end of the run behind the drain
-record AfterDrain (st : State) (run : EndRun) : Type 0 where
-  ends : EndsAs st run
-  not_words : run.result.0 ≡ status.Words → ⊥
-  not_input : run.result.0 ≡ status.Input → ⊥
-  output : run.result.0 ≡ status.Output → any_failed is_failure run.made.out ≡ true
+pub record AfterDrain (st : State) (run : EndRun) : Type 0 where
+  pub ends : EndsAs st run
+  pub not_words : run.result.0 ≡ status.Words → ⊥
+  pub not_input : run.result.0 ≡ status.Input → ⊥
+  pub output : run.result.0 ≡ status.Output → any_failed is_failure run.made.out ≡ true
+  pub faults : IsTold run.result.0 st.faulty
+
+told_as : (s : Status) (run : EndRun) (faulty : Bool) → run.result.0 ≡ s → IsTold s faulty → IsTold run.result.0 faulty
+told_as s run faulty is told = subst (λ (t : Status). IsTold t faulty) (sym is) told
 
 starved_end : (st : State) (answers : Answers) (run : EndRun) → Starves st answers run → AfterDrain st run
 starved_end st answers run does =
@@ -104,6 +118,7 @@ starved_end st answers run does =
       not_words = λ h. let x : status.Memory ≡ status.Words = sym is ∙ h in cc;
       not_input = λ h. let x : status.Memory ≡ status.Input = sym is ∙ h in cc;
       output = λ h. let x : status.Memory ≡ status.Output = sym is ∙ h in absurd (cc);
+      faults = told_as status.Memory run st.faulty is tt;
     }
 
 closed_by : (faulty : Bool) → (if faulty then status.Faults else status.Done) ≡ status.Words → ⊥
@@ -129,6 +144,7 @@ told_by st run true result failed =
       not_words = λ h. closed_by st.faulty (sym is ∙ h);
       not_input = λ h. closed_input st.faulty (sym is ∙ h);
       output = λ h. absurd (closed_output st.faulty (sym is ∙ h));
+      faults = told_as (closing_status st) run st.faulty is (closing_told st.faulty);
     }
 told_by st run false result failed =
     let is : run.result.0 ≡ status.Output = ap (λ (e : Ending). e.0) result in record {
@@ -136,6 +152,7 @@ told_by st run false result failed =
       not_words = λ h. let x : status.Output ≡ status.Words = sym is ∙ h in cc;
       not_input = λ h. let x : status.Output ≡ status.Input = sym is ∙ h in cc;
       output = λ h. failed refl;
+      faults = told_as status.Output run st.faulty is tt;
     }
 
 closed_end : (st : State) (answers : Answers) (run : EndRun) → Closes st answers run → AfterDrain st run
@@ -144,7 +161,7 @@ closed_end st answers run (tells does) =
     told_by st run said.all said.result said.failed
 closed_end st answers run (memory does) = starved_end st answers run does
 
-drained_end : (st : State) (went : Bool) (answers : Answers) (run : EndRun) → after_drain st went answers run → AfterDrain st run
+pub drained_end : (st : State) (went : Bool) (answers : Answers) (run : EndRun) → after_drain st went answers run → AfterDrain st run
 drained_end st true answers run does = closed_end st answers run does
 drained_end st false answers run does = starved_end st answers run does
 
@@ -158,10 +175,11 @@ record AfterShell (host : List ℕ) (stop : Stop) (st : State) (run : EndRun) : 
   input : run.result.0 ≡ status.Input → stop ≡ stops.Input
   output : run.result.0 ≡ status.Output → (stop ≡ stops.Output) ⊎ (any_failed is_failure run.made.out ≡ true)
   read : is_read run.result.0 ≡ true → stop ≡ stops.End
+  faults : IsTold run.result.0 st.faulty
 
 stopped : (host : List ℕ) (stop : Stop) (st : State) (s : Status) (run : EndRun) → run.result ≡ ending s st → (s ≡ status.Memory → ⊥) → (s ≡ status.Words → ⊥)
-    → (s ≡ status.Input → stop ≡ stops.Input) → (s ≡ status.Output → stop ≡ stops.Output) → (is_read s ≡ true → stop ≡ stops.End) → AfterShell host stop st run
-stopped host stop st s run result not_memory not_words input output read =
+    → (s ≡ status.Input → stop ≡ stops.Input) → (s ≡ status.Output → stop ≡ stops.Output) → (is_read s ≡ true → stop ≡ stops.End) → IsTold s st.faulty → AfterShell host stop st run
+stopped host stop st s run result not_memory not_words input output read faults =
     let is : run.result.0 ≡ s = ap (λ (e : Ending). e.0) result in record {
       kept = λ path bytes queued. inl (subst (λ (e : Ending). HoldsFile e.1.queued path bytes) (sym result) queued);
       done = ap (λ (e : Ending). e.1.done) result;
@@ -171,6 +189,7 @@ stopped host stop st s run result not_memory not_words input output read =
       input = λ h. input (sym is ∙ h);
       output = λ h. inl (output (sym is ∙ h));
       read = λ h. read (sym (ap is_read is) ∙ h);
+      faults = told_as s run st.faulty is faults;
     }
 
 emptied : (host : List ℕ) (st : State) (answers : Answers) (run : EndRun) → IsWithin st.table → after_shell host st stops.End answers run → AfterShell host stops.End st run
@@ -187,10 +206,13 @@ emptied host st answers run within does =
     ap (λ (r : EndRun). r.made.out) does.whole ∙ ap (λ (r : Run Made Answers (Bool × Table)). r.made.out ++ does.after.made.out) does.begins.is in
     let queue : files_of below.result.1.queued ≡ run.result.1.queued =
     ap (λ (r : Bool × Table). files_of r.1.queued) (sym first) ∙ sym end.ends.queued ∙ ap (λ (e : Ending). e.1.queued) (sym result) in
+    let gone : lost_files_of below.result.1.lost ≡ run.result.1.lost =
+    ap (λ (r : Bool × Table). lost_files_of r.1.lost) (sym first) ∙ sym end.ends.lost ∙ ap (λ (e : Ending). e.1.lost) (sym result) in
     record {
       kept = λ path bytes queued. elim (empty.each path bytes queued) [
         | inl stays ↦ inl (subst (λ l. HoldsFile l path bytes) queue stays)
-        | inr put ↦ inr (inr (subst (λ (l : List Happened). WasPut host path bytes l) (sym up) (was_put host path bytes (below.made ++ does.after.made.up) (put_first host path bytes below.made does.after.made.up put))))
+        | inr (inl lost) ↦ inr (inl (subst (λ l. HoldsFile l path bytes) gone lost))
+        | inr (inr put) ↦ inr (inr (subst (λ (l : List Happened). WasPut host path bytes l) (sym up) (was_put host path bytes (below.made ++ does.after.made.up) (put_first host path bytes below.made does.after.made.up put))))
       ];
       done = ap (λ (e : Ending). e.1.done) result ∙ end.ends.done;
       starved = λ h. ap (λ (e : Ending). e.1.starved) result ∙ end.ends.starved h;
@@ -199,14 +221,15 @@ emptied host st answers run within does =
       input = λ h. absurd (end.not_input (sym status_is ∙ h));
       output = λ h. inr (ap (any_failed is_failure) out ∙ end.output (sym status_is ∙ h));
       read = λ h. refl;
+      faults = subst (λ (t : Status). IsTold t st.faulty) (sym status_is) end.faults;
     }
 
 after_stop : (host : List ℕ) (stop : Stop) (st : State) (answers : Answers) (run : EndRun) → IsWithin st.table → after_shell host st stop answers run → AfterShell host stop st run
 after_stop host stops.Output st answers run within does =
-    stopped host stops.Output st status.Output run (ap (λ (r : EndRun). r.result) does) (λ h. cc) (λ h. cc) (λ h. absurd (cc)) (λ h. refl) (λ h. absurd (cc))
+    stopped host stops.Output st status.Output run (ap (λ (r : EndRun). r.result) does) (λ h. cc) (λ h. cc) (λ h. absurd (cc)) (λ h. refl) (λ h. absurd (cc)) tt
 after_stop host stops.Input st answers run within does =
     let said = says input_end (λ all. ending status.Input st) answers run does in
-    stopped host stops.Input st status.Input run said.result (λ h. cc) (λ h. cc) (λ h. refl) (λ h. absurd (cc)) (λ h. absurd (cc))
+    stopped host stops.Input st status.Input run said.result (λ h. cc) (λ h. cc) (λ h. refl) (λ h. absurd (cc)) (λ h. absurd (cc)) tt
 after_stop host stops.End st answers run within does = emptied host st answers run within does
 
 -- What a run of the program comes to.
@@ -224,6 +247,19 @@ record Outcome (words : List (List ℕ)) (bytes : List ℕ) (failed : Bool) (run
   output : run.result.0 ≡ status.Output → any_failed is_failure run.made.out ≡ true
   starves : run.result.0 ≡ status.Memory → run.result.1.starved ≡ true
   starved : last.starved ≡ true → run.result.1.starved ≡ true
+  faults : FaultsTold run.result.0 told
+
+-- a faulty state is one in which a line answered a fault
+faults_told : (s : Status) (told : List Told) (last : State) → WalkFaults told fresh_state last → IsTold s last.faulty → FaultsTold s told
+faults_told status.Done told last walk is = λ any. let x : true ≡ false = sym (walk.has any) ∙ is in absurd (cc)
+faults_told status.Faults told last walk is = elim (walk.back is) [
+  | inl fresh ↦ let x : false ≡ true = fresh in absurd (cc)
+  | inr any ↦ any
+]
+faults_told status.Words told last walk is = tt
+faults_told status.Input told last walk is = tt
+faults_told status.Output told last walk is = tt
+faults_told status.Memory told last walk is = tt
 
 refused_outcome : (words : List (List ℕ)) (bytes : List ℕ) (failed : Bool) (answers : Answers) (run : EndRun) → HasNoBase words → Says words_end (ending status.Words fresh_state) answers run → Outcome words bytes failed run
 refused_outcome words bytes failed answers run none does =
@@ -242,6 +278,7 @@ refused_outcome words bytes failed answers run none does =
       output = λ h. let x : status.Words ≡ status.Output = sym is ∙ h in absurd (cc);
       starves = λ h. let x : status.Words ≡ status.Memory = sym is ∙ h in absurd (cc);
       starved = λ h. let x : false ≡ true = h in absurd (cc);
+      faults = subst (λ (s : Status). FaultsTold s []) (sym is) tt;
     }
 
 nothing_last : (a : List ℕ) → a ++ 47 ∷ [] ≡ [] → ⊥
@@ -257,7 +294,7 @@ slash_last (x ∷ a) (y ∷ b) is =
     let heads : x ≡ y = cc in
     ap (λ (z : ℕ). z ∷ a) heads ∙ ap (λ (l : List ℕ). y ∷ l) (slash_last a b tails)
 
-base_unique : (words : List (List ℕ)) (g h : List ℕ) → IsBase words g → IsBase words h → g ≡ h
+pub base_unique : (words : List (List ℕ)) (g h : List ℕ) → IsBase words g → IsBase words h → g ≡ h
 base_unique words g h one two =
     let same : (codes "http://" ++ g ++ codes "/") ∷ [] ≡ (codes "http://" ++ h ++ codes "/") ∷ [] = sym one.only ∙ two.only in
     slash_last g h (let tails : g ++ 47 ∷ [] ≡ h ++ 47 ∷ [] = cc in tails)
@@ -298,6 +335,8 @@ on_outcome words host bytes failed answers run base does =
       ];
       starves = λ h. ap (λ (e : Ending). e.1.starved) result ∙ end.starves (sym status_is ∙ h);
       starved = λ h. ap (λ (e : Ending). e.1.starved) result ∙ end.starved h;
+      faults = subst (λ (s : Status). FaultsTold s told.told) (sym status_is)
+          (faults_told does.after.result.0 told.told below.result.1 (walk_faults told.told fresh_state below.result.1 told.walked) end.faults);
     }
 
 outcome : (words : List (List ℕ)) (bytes : List ℕ) (failed : Bool) (answers : Answers) (run : EndRun) → Runs words bytes failed answers run → Outcome words bytes failed run
@@ -336,6 +375,7 @@ keeps words s0 s1 o p u v end ran =
       lines = all.lines;
       all = all_read end.0 all.rest all.all;
       answered = all.answered;
+      faults = all.faults;
       done = all.done;
       starved = all.starved;
       kept = all.kept;

@@ -4,6 +4,8 @@ pub mod Emptying
 pub mod Ending
 pub mod Exchanging
 pub mod Keeping
+pub mod OneRun
+pub mod TheRun
 pub mod PutLines
 pub mod Putting
 pub mod Storing

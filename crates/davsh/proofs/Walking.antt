@@ -1,5 +1,5 @@
 -- What was closed last stays queued while the lines are carried out.
-use Rattle.std.proofs.Common.{◌≡◌, inl, inr, ℕ, List, [], ◌∷◌, length, Ok, refl, sym, ◌∙◌, ap, subst, arith}
+use Rattle.std.proofs.Common.{◌≡◌, ◌⊎◌, inl, inr, ℕ, List, [], ◌∷◌, ◌++◌, length, codes, true, Ok, refl, sym, ◌∙◌, ap, subst, arith}
 use Rattle.dav_text.specs.Path.{PathParts}
 use Rattle.dav_text.specs.declared.which.Which.{Which}
 use Rattle.dav_desk.specs.Kept.{KeptFile, HoldsFile}
@@ -9,8 +9,8 @@ use Rattle.dav_desk.specs.declared.answer.Answer.{Answer as DeskAnswer}
 use Rattle.dav_desk.specs.declared.ask.Ask.TheVariants.{Store}
 use Rattle.dav_desk.proofs.Laws.{store_queues, store_keeps_others, store_is_within, store_loses_nothing}
 use Rattle.davsh.specs.Line.{IsPut}
-use Rattle.davsh.specs.Shell.{State, counted, closed_line, limit_line, Answered, nothing, syntax, closed, limit, memory}
-use Rattle.davsh.specs.Kept.{Told, Walks, IsClose, NoClose, IsLastClose}
+use Rattle.davsh.specs.Shell.{State, counted, closed_line, limit_line, which_name, Answered, nothing, syntax, closed, limit, memory}
+use Rattle.davsh.specs.Kept.{Told, Walks, IsClose, NoClose, IsLastClose, IsFault, AnyFault}
 use Rattle.davsh.proofs.PutLines.{put_unique}
 
 -- the files hold what they hold for each path of the same segments
@@ -109,3 +109,68 @@ walk_keeps (t ∷ told) before end within (now, answered, inr walks) =
     let one = keeps_one t before now within answered in
     let more = walk_keeps told (counted now) end one.within walks in
     walk_more t told before now end one (record { within = more.within; lost = more.lost; stays = more.stays; last = more.last })
+
+-- what a line prints begins with no fault
+no_fault : (told : Told) (n : ℕ) → first_byte told.printed ≡ n → (n ≡ 102 → ⊥) → IsFault told → ⊥
+no_fault told n first other fault = other (sym first ∙ ap first_byte fault.1)
+
+-- a line that prints a fault leaves the state faulty, and no other line changes whether it is
+record Faults1 (told : Told) (before now : State) : Type 0 where
+  was : before.faulty ≡ true → now.faulty ≡ true
+  has : IsFault told → now.faulty ≡ true
+  back : now.faulty ≡ true → (before.faulty ≡ true) ⊎ IsFault told
+
+faults_here : (told : Told) (before now : State) → now.faulty ≡ true → IsFault told → Faults1 told before now
+faults_here told before now is fault = record { was = λ h. is; has = λ h. is; back = λ h. inr fault }
+
+faults_same : (told : Told) (before now : State) → now.faulty ≡ before.faulty → (IsFault told → ⊥) → Faults1 told before now
+faults_same told before now is none = record { was = λ h. is ∙ h; has = λ h. absurd (none h); back = λ h. inl (sym is ∙ h) }
+
+faults_one : (told : Told) (before now : State) → Answered before told.line told.printed now → Faults1 told before now
+faults_one told before now (nothing empty printed is) =
+    faults_same told before now (ap (λ (s : State). s.faulty) is) (no_fault told 0 (ap first_byte printed) (λ h. absurd (omega arith)))
+faults_one told before now (syntax some none printed is) =
+    faults_here told before now (ap (λ (s : State). s.faulty) is) (codes "syntax early 0\n", printed)
+faults_one told before now (closed path bytes table answer put step printed is) =
+    faults_same told before now (ap (λ (s : State). s.faulty) is) (no_fault told 99 (ap first_byte printed) (λ h. absurd (omega arith)))
+faults_one told before now (limit path bytes which put step printed is) =
+    faults_here told before now (ap (λ (s : State). s.faulty) is) (codes "limit " ++ which_name which ++ codes "\n", printed)
+faults_one told before now (memory printed is) =
+    faults_here told before now (ap (λ (s : State). s.faulty) is) (codes "memory\n", printed)
+
+-- the state is faulty where it was, or where a line printed a fault
+pub record WalkFaults (told : List Told) (before now : State) : Type 0 where
+  pub was : before.faulty ≡ true → now.faulty ≡ true
+  pub has : AnyFault told → now.faulty ≡ true
+  pub back : now.faulty ≡ true → (before.faulty ≡ true) ⊎ AnyFault told
+
+faults_none : (before now : State) → now ≡ before → WalkFaults [] before now
+faults_none before now is = record {
+  was = λ h. ap (λ (s : State). s.faulty) is ∙ h;
+  has = λ h. absurd h;
+  back = λ h. inl (sym (ap (λ (s : State). s.faulty) is) ∙ h);
+}
+
+faults_more : (t : Told) (told : List Told) (before now end : State) → Faults1 t before now → WalkFaults told now end → WalkFaults (t ∷ told) before end
+faults_more t told before now end one more = record {
+  was = λ h. more.was (one.was h);
+  has = λ h. elim h [
+    | inl here ↦ more.was (one.has here)
+    | inr later ↦ more.has later
+  ];
+  back = λ h. elim (more.back h) [
+    | inl was ↦ elim (one.back was) [
+      | inl first ↦ inl first
+      | inr here ↦ inr (inl here)
+    ]
+    | inr later ↦ inr (inr later)
+  ];
+}
+
+pub walk_faults : (told : List Told) (before end : State) → Walks before told end → WalkFaults told before end
+walk_faults [] before end walks = faults_none before end walks
+walk_faults (t ∷ told) before end (now, answered, inl (none, is)) =
+    faults_more t told before now end (faults_one t before now answered) (subst (λ (l : List Told). WalkFaults l now end) (sym none) (faults_none now end is))
+walk_faults (t ∷ told) before end (now, answered, inr walks) =
+    let more = walk_faults told (counted now) end walks in
+    faults_more t told before now end (faults_one t before now answered) (record { was = more.was; has = more.has; back = more.back })

@@ -1,5 +1,5 @@
 -- The drain: each queued file is sent once.
-use Rattle.std.specs.Prelude.{◌≡◌, ℕ, List, Bool, true, false, Option, Some, None, Ok, Err, if◌then◌else◌}
+use Rattle.std.specs.Prelude.{◌≡◌, ℕ, List, Bool, true, false, Option, Some, None, Ok, Err, if◌then◌else◌, nat_eq}
 use Rattle.dav_machine.specs.Devices.{one_device}
 use Rattle.dav_machine.specs.Machine.{Run, give, run_with, prepend}
 use Rattle.dav_edge.specs.Device.{Answer, Happened}
@@ -12,12 +12,16 @@ use Rattle.dav_desk.specs.declared.answer.Job.{Job}
 use Rattle.dav_desk.specs.declared.ask.Ask.TheVariants.{Take, Settle}
 use Rattle.dav_desk.specs.declared.ask.Done.{Done}
 use Rattle.dav_desk.specs.declared.ask.Done.TheVariants as done
-use Rattle.davsh.specs.Exchange.{Heard, Uploads, is_success}
+use Rattle.davsh.specs.Exchange.{Heard, Uploads, is_success, asks_again}
 
--- how a job ends: a whole reply of success settles it, and whatever else came leaves the file queued
+-- how a job ends by the status of its reply: the server took the file, or may take it later, or refused it
+abbrev pub outcome_of : ℕ → Done
+outcome_of status = if is_success status then done.Sent else (if asks_again status then done.Again else done.Refused)
+
+-- where no whole reply came, or a login is wanted, the file is to be sent again
 abbrev pub done_of : Option ℕ → Done
 done_of None = done.Again
-done_of (Some status) = if is_success status then done.Sent else done.Again
+done_of (Some status) = if nat_eq 401 status then done.Again else outcome_of status
 
 -- a job of this number is in flight
 abbrev pub IsFlying : Table → ℕ → Type 0

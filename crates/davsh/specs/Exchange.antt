@@ -1,5 +1,5 @@
 -- One request and its reply: connect, send the whole text, read one reply, shut.
-use Rattle.std.specs.Prelude.{◌≡◌, ◌≢◌, ◌⊎◌, ℕ, List, [], ◌∷◌, ◌++◌, codes, Bool, true, false, Option, Some, None, Result, Ok, Err, nat_le, ◌&&◌}
+use Rattle.std.specs.Prelude.{◌≡◌, ◌≢◌, ◌⊎◌, ℕ, List, [], ◌∷◌, ◌++◌, codes, Bool, true, false, Option, Some, None, Result, Ok, Err, nat_le, nat_eq, ◌&&◌, ◌||◌}
 use Rattle.dav_machine.specs.Devices.{one_device}
 use Rattle.dav_machine.specs.Machine.{Run, give, Calls, and_then}
 use Rattle.dav_edge.specs.Device.{Connect, Receive, Answer, Fails, Goes, Gives, Happened, happened, shut_down, ByteMachine}
@@ -79,3 +79,7 @@ pub data Uploads (host : List ℕ) (path : PathParts) (bytes : List ℕ) (answer
 -- the status says that the server took the request
 abbrev pub is_success : ℕ → Bool
 is_success status = nat_le 200 status && nat_le status 299
+
+-- the status says that the same request may succeed later
+abbrev pub asks_again : ℕ → Bool
+asks_again status = nat_eq 408 status || nat_eq 429 status || nat_eq 500 status || nat_eq 502 status || nat_eq 503 status || nat_eq 504 status

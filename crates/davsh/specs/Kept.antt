@@ -1,5 +1,5 @@
 -- What a caller of a run may rely on.
-use Rattle.std.specs.Prelude.{◌≡◌, ◌⊎◌, ℕ, List, [], ◌∷◌, ◌++◌, map, length, Contains, true}
+use Rattle.std.specs.Prelude.{◌≡◌, ◌⊎◌, ℕ, List, [], ◌∷◌, ◌++◌, map, length, codes, Contains, true}
 use Rattle.dav_edge.specs.Device.{Happened, DeviceLog, Grew, given}
 use Rattle.dav_edge.specs.Connections.{Connection, connections_of}
 use Rattle.dav_text.specs.declared.method.Method.TheVariants.{Put}
@@ -67,6 +67,21 @@ abbrev pub IsKept : List ℕ → PathParts → List ℕ → Ended → List Happe
 IsKept host path bytes end events =
     HoldsFile end.queued path bytes ⊎ (HoldsFile end.lost path bytes ⊎ WasPut host path bytes events)
 
+-- what the line printed tells a fault
+abbrev pub IsFault : Told → Type 0
+IsFault told = (rest : List ℕ) × (told.printed ≡ codes "fault: " ++ rest)
+
+-- one of the lines answered a fault
+abbrev pub AnyFault : List Told → Type 0
+AnyFault [] = ⊥
+AnyFault (told ∷ more) = IsFault told ⊎ AnyFault more
+
+-- whether one of the lines answered a fault, where the status tells it
+abbrev pub FaultsTold : Status → List Told → Type 0
+FaultsTold Done told = ¬ (AnyFault told)
+FaultsTold Faults told = AnyFault told
+FaultsTold _ told = Unit {0}
+
 -- at these statuses every line of the input was carried out
 abbrev pub AllRead : Status → List (List ℕ) → Type 0
 AllRead Done rest = rest ≡ []
@@ -88,6 +103,7 @@ pub record Keeps (words : List (List ℕ)) (source_old source_new out_old out_ne
   pub lines : lines_of (given heard) ≡ map line_of told ++ rest
   pub all : AllRead end.0 rest
   pub answered : Walks fresh_state told last
+  pub faults : FaultsTold end.0 told
   pub done : last.done ≡ end.1.done
   pub starved : last.starved ≡ true → end.1.starved ≡ true
   pub kept : (host : List ℕ) → IsBase words host → (path : PathParts) (bytes : List ℕ)

@@ -3,7 +3,7 @@ ghost use Rattle.dav_edge.specs.Whole.{DoesOn};
 ghost use Rattle.dav_desk.specs.After.{after};
 ghost use Rattle.dav_desk.specs.declared.answer.Answer.{Answer as DeskAnswer};
 ghost use Rattle.dav_desk.specs.declared.ask.Ask.TheVariants.{Settle};
-ghost use Rattle.davsh.specs.Drain.{Drains, IsFlying, done_of};
+ghost use Rattle.davsh.specs.Drain.{Drains, IsFlying, done_of, outcome_of};
 
 use crate::exchange::upload;
 use dav_desk::{Answer, Ask, Desk, Done};
@@ -41,12 +41,25 @@ fn settle(desk: &mut Desk, number: u64, done: Done)
     }
 }
 
-/// How a job ends: only a whole reply that says that the server took the file settles it.
+/// How a job ends by the status of its whole reply, if one came. At 401 a login is wanted, and
+/// there is none to give.
 fn done_of(came: Option<u16>) -> Done
     ensures { result ≡ done_of came }
 {
     match came {
-        Some(200..=299) => Done::Sent,
-        _ => Done::Again,
+        None | Some(401) => Done::Again,
+        Some(status) => outcome_of(status),
+    }
+}
+
+/// What a status says of the file that was sent: the server took it, or may take it later, or
+/// refused it.
+fn outcome_of(status: u16) -> Done
+    ensures { result ≡ outcome_of status }
+{
+    match status {
+        200..=299 => Done::Sent,
+        408 | 429 | 500 | 502 | 503 | 504 => Done::Again,
+        _ => Done::Refused,
     }
 }

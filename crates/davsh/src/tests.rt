@@ -113,11 +113,16 @@ fn only_the_last_store_of_a_path_is_sent(rt: HostRuntime) -> Result<(), Fail> {
 #[test]
 fn what_the_server_did_not_take_stays_queued(rt: HostRuntime) -> Result<(), Fail> {
     let alloc = rt.alloc();
-    let replies: [&[u8]; 6] = [
+    let replies: [&[u8]; 11] = [
         b"",
         b"HTTP/1.1 201 Created\r\nContent-Length: 5\r\n\r\nshor",
-        b"HTTP/1.1 412 Precondition Failed\r\nContent-Length: 0\r\n\r\n",
+        b"HTTP/1.1 401 Unauthorized\r\nContent-Length: 0\r\n\r\n",
+        b"HTTP/1.1 408 Request Timeout\r\nContent-Length: 0\r\n\r\n",
+        b"HTTP/1.1 429 Too Many Requests\r\nContent-Length: 0\r\n\r\n",
         b"HTTP/1.1 500 Internal Server Error\r\nContent-Length: 2\r\n\r\nno",
+        b"HTTP/1.1 502 Bad Gateway\r\nContent-Length: 0\r\n\r\n",
+        b"HTTP/1.1 503 Service Unavailable\r\nContent-Length: 0\r\n\r\n",
+        b"HTTP/1.1 504 Gateway Timeout\r\nContent-Length: 0\r\n\r\n",
         b"HTTP/1.1 201 Created\r\n\r\n",
         b"no reply at all\r\n\r\n",
     ];
@@ -133,6 +138,33 @@ fn what_the_server_did_not_take_stays_queued(rt: HostRuntime) -> Result<(), Fail
     assert_eq!(rt; no_stream.status, Status::Faults);
     let want: &[u8] = b"fault: syntax early 0\nclosed /a 1\nleft: queued 1 lost 0\n";
     assert!(rt; no_stream.out.as_slice() == want);
+    Ok(())
+}
+
+#[test]
+fn what_the_server_refused_is_lost(rt: HostRuntime) -> Result<(), Fail> {
+    let alloc = rt.alloc();
+    let replies: [&[u8]; 6] = [
+        b"HTTP/1.1 412 Precondition Failed\r\nContent-Length: 0\r\n\r\n",
+        b"HTTP/1.1 300 Multiple Choices\r\nContent-Length: 0\r\n\r\n",
+        b"HTTP/1.1 403 Forbidden\r\nContent-Length: 2\r\n\r\nno",
+        b"HTTP/1.1 409 Conflict\r\nContent-Length: 0\r\n\r\n",
+        b"HTTP/1.1 501 Not Implemented\r\nContent-Length: 0\r\n\r\n",
+        b"HTTP/1.1 507 Insufficient Storage\r\nContent-Length: 0\r\n\r\n",
+    ];
+    for (at, reply) in replies.iter().enumerate() {
+        let streams = [*reply];
+        let outcome = outcome_of(alloc, &on_input(b"fput /a hello\n", streams.as_slice()))?;
+        assert_eq!(rt; outcome.status, Status::Done, "at reply {at}");
+        let want: &[u8] = b"closed /a 5\nleft: queued 0 lost 1\n";
+        assert!(rt; outcome.out.as_slice() == want, "at reply {at}");
+        assert!(rt; outcome.ended.queued.is_empty());
+        assert_eq!(rt; outcome.ended.lost.len(), 1);
+        let mut path = Vec::new(alloc);
+        outcome.ended.lost.path(0).escaped_into(&mut path)?;
+        assert!(rt; path.as_slice() == b"/a".as_slice());
+        assert!(rt; outcome.ended.lost.bytes(0).as_slice() == b"hello".as_slice());
+    }
     Ok(())
 }
 

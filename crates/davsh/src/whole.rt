@@ -1,9 +1,10 @@
-ghost use Rattle.std.specs.Prelude.{◌≡◌, ◌↔◌, IfOk, true, if◌then◌else◌};
+ghost use Rattle.std.specs.Prelude.{◌≡◌, ◌↔◌, IfOk, true, false, if◌then◌else◌};
 ghost use Rattle.dav_machine.specs.Log.{Rose};
 ghost use Rattle.dav_machine.specs.Machine.{Does};
 ghost use Rattle.davsh.specs.Words.{HasNoBase, texts_of};
 ghost use Rattle.davsh.specs.Said.{state_of};
 ghost use Rattle.davsh.specs.Run.{both, BothGrew, Ran, EndsSink, Starves, Closes, after_shell, ending, left_text};
+ghost use Rattle.davsh.specs.Function.{IsTheRun};
 ghost use Rattle.davsh.specs.Kept.{Keeps};
 ghost use Rattle.davsh.specs.declared.ended.Status.TheVariants as status;
 ghost use Rattle.davsh.specs.declared.stop.Stop.TheVariants as stops;
@@ -151,6 +152,9 @@ pub fn run<S: Source, O: Sink, V: Wire>(
     ensures input { result.0 ≡ status.Input → Rose (S.log input.old).faults (S.log input.new).faults }
     ensures output { result.0 ≡ status.Output → Rose (O.log out.old).faults (O.log out.new).faults }
     ensures memory { result.0 ≡ status.Memory → result.1.starved ≡ true }
+    ensures function { result.1.starved ≡ false
+        → IsTheRun (texts_of words.now) (S.log input.old) (S.log input.new) (O.log out.old) (O.log out.new)
+        (V.log up_wire.old) (V.log up_wire.new) result }
 {
     run_all(alloc, words, input, out, up_wire)
 }
