@@ -1,0 +1,6 @@
+pub mod FeedLemmas
+pub mod KeepLemmas
+pub mod FieldLemmas
+pub mod ElementLemmas
+pub mod LineFronts
+pub mod LineLemmas

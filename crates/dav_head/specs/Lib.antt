@@ -1,0 +1,9 @@
+pub mod Limit
+pub mod Head
+pub mod Fields
+pub mod Elements
+pub mod Lengths
+pub mod Codings
+pub mod Body
+pub mod Line
+pub mod Trailers
