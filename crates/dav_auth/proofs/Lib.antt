@@ -1,0 +1,4 @@
+pub mod CleanLemmas
+pub mod GrammarLemmas
+pub mod QuoteLemmas
+pub mod ReadingLemmas
