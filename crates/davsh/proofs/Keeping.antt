@@ -3,14 +3,17 @@ use Rattle.std.proofs.Common.{◌≡◌, ◌⊎◌, inl, inr, ◌↔◌, ℕ, Li
 use Rattle.dav_machine.specs.Log.{any_failed, Rose}
 use Rattle.dav_machine.specs.Machine.{Run, run_with, give, and_then}
 use Rattle.dav_machine.specs.Part.{lift}
+use Rattle.dav_machine.proofs.Logs.{any_failed-append}
+use Rattle.std.proofs.lemmas.List.{length-map}
 use Rattle.dav_edge.specs.Device.{Happened, DeviceLog, given, is_failure}
 use Rattle.dav_edge.specs.Whole.{Sends}
 use Rattle.dav_edge.proofs.Sending.{sent_so}
 use Rattle.dav_text.specs.Path.{PathParts}
-use Rattle.dav_desk.specs.Kept.{HoldsFile, files_of, lost_files_of}
+use Rattle.dav_desk.specs.Kept.{HoldsFile, file_of, lost_file_of, files_of, lost_files_of}
 use Rattle.dav_desk.specs.Table.{Table, IsWithin, IsQueued}
 use Rattle.dav_desk.proofs.Laws.{fresh_is_within}
 use Rattle.davsh.specs.declared.ended.Status.{Status}
+use Rattle.davsh.specs.declared.ended.Ended.{Ended}
 use Rattle.davsh.specs.declared.ended.Status.TheVariants as status
 use Rattle.davsh.specs.declared.stop.Stop.{Stop}
 use Rattle.davsh.specs.declared.stop.Stop.TheVariants as stops
@@ -18,8 +21,9 @@ use Rattle.davsh.specs.Words.{IsBase, HasNoBase}
 use Rattle.davsh.specs.Line.{lines_of}
 use Rattle.davsh.specs.Shell.{State, fresh_state}
 use Rattle.davsh.specs.Run.{Made, Answers, answers_of, both, the_sink, BothGrew, Ending, ending, with_table, without_memory, Says, words_end, input_end, memory_end, Starves, closing_status, left_text, Closes, tells, memory, after_drain, after_shell, RunsOn, Runs, refused, on, Ran}
-use Rattle.davsh.specs.Kept.{Told, line_of, Walks, IsLastClose, WasPut, IsKept, FaultsTold, AllRead, Keeps}
+use Rattle.davsh.specs.Kept.{Told, line_of, Walks, IsLastClose, WasPut, IsKept, FaultsTold, AllRead, printed_by, last_text, Wrote, AllWritten, Keeps}
 use Rattle.davsh.proofs.Telling.{shell_told}
+use Rattle.davsh.proofs.Writing.{wrote_sent, wrote_as, wrote_then, wrote_cut}
 use Rattle.davsh.proofs.Walking.{walk_keeps, WalkFaults, walk_faults}
 use Rattle.davsh.proofs.Emptying.{put_first, was_put, drained}
 
@@ -59,6 +63,12 @@ closing_told : (faulty : Bool) → IsTold (if faulty then status.Faults else sta
 closing_told true = refl
 closing_told false = refl
 
+-- the statuses at which all was written
+abbrev is_closed : Status → Bool
+is_closed status.Done = true
+is_closed status.Faults = true
+is_closed _ = false
+
 -- How a run ends behind a state: what is queued and lost then, and why.
 pub record EndsAs (st : State) (run : EndRun) : Type 0 where
   pub queued : run.result.1.queued ≡ files_of st.table.queued
@@ -77,12 +87,14 @@ ends_as s st run starved is = record {
 }
 
 -- a last line on the sink
-pub record Said (end : Bool → Ending) (run : EndRun) : Type 0 where
+pub record Said (line : List ℕ) (end : Bool → Ending) (run : EndRun) : Type 0 where
   pub all : Bool
   pub result : run.result ≡ end all
   pub failed : all ≡ false → any_failed is_failure run.made.out ≡ true
+  pub fine : all ≡ true → any_failed is_failure run.made.out ≡ false
+  pub wrote : Wrote run.made.out line
 
-pub says : (line : List ℕ) (end : Bool → Ending) (answers : Answers) (run : EndRun) → and_then both (lift the_sink (Sends line)) (λ all. give both (end all)) answers run → Said end run
+pub says : (line : List ℕ) (end : Bool → Ending) (answers : Answers) (run : EndRun) → and_then both (lift the_sink (Sends line)) (λ all. give both (end all)) answers run → Said line end run
 says line end answers run does =
     let below = does.begins.below in
     let first : does.before.result ≡ below.result = ap (λ (r : Run Made Answers Bool). r.result) does.begins.is in
@@ -95,6 +107,8 @@ says line end answers run does =
       all = below.result;
       result = ap (λ (r : EndRun). r.result) does.whole ∙ ap (λ (r : EndRun). r.result) does.goes_on ∙ ap end first;
       failed = λ none. ap (any_failed is_failure) (made ∙ append-nil below.made) ∙ so.failed ∙ ap not none;
+      fine = λ went. ap (any_failed is_failure) (made ∙ append-nil below.made) ∙ so.failed ∙ ap not went;
+      wrote = wrote_as below.made run.made.out line line (sym (made ∙ append-nil below.made)) refl (wrote_sent line below so);
     }
 
 -- the end of the run behind the drain
@@ -104,6 +118,8 @@ pub record AfterDrain (st : State) (run : EndRun) : Type 0 where
   pub not_input : run.result.0 ≡ status.Input → ⊥
   pub output : run.result.0 ≡ status.Output → any_failed is_failure run.made.out ≡ true
   pub faults : IsTold run.result.0 st.faulty
+  pub wrote : Wrote run.made.out (last_text run.result)
+  pub fine : is_closed run.result.0 ≡ true → any_failed is_failure run.made.out ≡ false
 
 told_as : (s : Status) (run : EndRun) (faulty : Bool) → run.result.0 ≡ s → IsTold s faulty → IsTold run.result.0 faulty
 told_as s run faulty is told = subst (λ (t : Status). IsTold t faulty) (sym is) told
@@ -119,6 +135,8 @@ starved_end st answers run does =
       not_input = λ h. let x : status.Memory ≡ status.Input = sym is ∙ h in cc;
       output = λ h. let x : status.Memory ≡ status.Output = sym is ∙ h in absurd (cc);
       faults = told_as status.Memory run st.faulty is tt;
+      wrote = wrote_as run.made.out run.made.out memory_end (last_text run.result) refl (sym (ap last_text said.result)) said.wrote;
+      fine = λ h. let x : false ≡ true = sym (ap is_closed is) ∙ h in absurd (cc);
     }
 
 closed_by : (faulty : Bool) → (if faulty then status.Faults else status.Done) ≡ status.Words → ⊥
@@ -137,28 +155,44 @@ closed_memory : (faulty : Bool) → (if faulty then status.Faults else status.Do
 closed_memory true is = cc
 closed_memory false is = cc
 
-told_by : (st : State) (run : EndRun) (all : Bool) → run.result ≡ ending (if all then closing_status st else status.Output) st → (all ≡ false → any_failed is_failure run.made.out ≡ true) → AfterDrain st run
-told_by st run true result failed =
+-- the table's counts are those of the files that a run ends with
+same_left : (st : State) → left_text (length st.table.queued) (length st.table.lost) ≡ left_text (length (files_of st.table.queued)) (length (lost_files_of st.table.lost))
+same_left st =
+    ap (λ (n : ℕ). left_text n (length st.table.lost)) (sym (length-map st.table.queued file_of))
+    ∙ ap (λ (n : ℕ). left_text (length (files_of st.table.queued)) n) (sym (length-map st.table.lost lost_file_of))
+
+closed_text : (faulty : Bool) (end : Ended) → last_text ((if faulty then status.Faults else status.Done), end) ≡ left_text (length end.queued) (length end.lost)
+closed_text true end = refl
+closed_text false end = refl
+
+told_by : (st : State) (run : EndRun) (all : Bool) → run.result ≡ ending (if all then closing_status st else status.Output) st → (all ≡ false → any_failed is_failure run.made.out ≡ true)
+    → (all ≡ true → any_failed is_failure run.made.out ≡ false) → Wrote run.made.out (left_text (length st.table.queued) (length st.table.lost)) → AfterDrain st run
+told_by st run true result failed fine wrote =
     let is : run.result.0 ≡ closing_status st = ap (λ (e : Ending). e.0) result in record {
       ends = ends_as (closing_status st) st run (λ m. absurd (closed_memory st.faulty m)) result;
       not_words = λ h. closed_by st.faulty (sym is ∙ h);
       not_input = λ h. closed_input st.faulty (sym is ∙ h);
       output = λ h. absurd (closed_output st.faulty (sym is ∙ h));
       faults = told_as (closing_status st) run st.faulty is (closing_told st.faulty);
+      wrote = wrote_as run.made.out run.made.out _ (last_text run.result) refl
+          (same_left st ∙ sym (closed_text st.faulty (ending status.Done st).1) ∙ sym (ap last_text result)) wrote;
+      fine = λ h. fine refl;
     }
-told_by st run false result failed =
+told_by st run false result failed fine wrote =
     let is : run.result.0 ≡ status.Output = ap (λ (e : Ending). e.0) result in record {
       ends = ends_as status.Output st run (λ m. absurd (cc)) result;
       not_words = λ h. let x : status.Output ≡ status.Words = sym is ∙ h in cc;
       not_input = λ h. let x : status.Output ≡ status.Input = sym is ∙ h in cc;
       output = λ h. failed refl;
       faults = told_as status.Output run st.faulty is tt;
+      wrote = wrote_as run.made.out run.made.out _ (last_text run.result) refl (same_left st ∙ sym (ap last_text result)) wrote;
+      fine = λ h. let x : false ≡ true = sym (ap is_closed is) ∙ h in absurd (cc);
     }
 
 closed_end : (st : State) (answers : Answers) (run : EndRun) → Closes st answers run → AfterDrain st run
 closed_end st answers run (tells does) =
     let said = says (left_text (length st.table.queued) (length st.table.lost)) (λ all. ending (if all then closing_status st else status.Output) st) answers run does in
-    told_by st run said.all said.result said.failed
+    told_by st run said.all said.result said.failed said.fine said.wrote
 closed_end st answers run (memory does) = starved_end st answers run does
 
 pub drained_end : (st : State) (went : Bool) (answers : Answers) (run : EndRun) → after_drain st went answers run → AfterDrain st run
@@ -176,10 +210,14 @@ record AfterShell (host : List ℕ) (stop : Stop) (st : State) (run : EndRun) : 
   output : run.result.0 ≡ status.Output → (stop ≡ stops.Output) ⊎ (any_failed is_failure run.made.out ≡ true)
   read : is_read run.result.0 ≡ true → stop ≡ stops.End
   faults : IsTold run.result.0 st.faulty
+  wrote : (stop ≡ stops.Output → ⊥) → Wrote run.made.out (last_text run.result)
+  none : stop ≡ stops.Output → run.made.out ≡ []
+  fine : is_closed run.result.0 ≡ true → any_failed is_failure run.made.out ≡ false
 
 stopped : (host : List ℕ) (stop : Stop) (st : State) (s : Status) (run : EndRun) → run.result ≡ ending s st → (s ≡ status.Memory → ⊥) → (s ≡ status.Words → ⊥)
-    → (s ≡ status.Input → stop ≡ stops.Input) → (s ≡ status.Output → stop ≡ stops.Output) → (is_read s ≡ true → stop ≡ stops.End) → IsTold s st.faulty → AfterShell host stop st run
-stopped host stop st s run result not_memory not_words input output read faults =
+    → (s ≡ status.Input → stop ≡ stops.Input) → (s ≡ status.Output → stop ≡ stops.Output) → (is_read s ≡ true → stop ≡ stops.End) → IsTold s st.faulty
+    → ((stop ≡ stops.Output → ⊥) → Wrote run.made.out (last_text run.result)) → (stop ≡ stops.Output → run.made.out ≡ []) → (is_closed s ≡ false) → AfterShell host stop st run
+stopped host stop st s run result not_memory not_words input output read faults wrote none unclosed =
     let is : run.result.0 ≡ s = ap (λ (e : Ending). e.0) result in record {
       kept = λ path bytes queued. inl (subst (λ (e : Ending). HoldsFile e.1.queued path bytes) (sym result) queued);
       done = ap (λ (e : Ending). e.1.done) result;
@@ -190,6 +228,9 @@ stopped host stop st s run result not_memory not_words input output read faults 
       output = λ h. inl (output (sym is ∙ h));
       read = λ h. read (sym (ap is_read is) ∙ h);
       faults = told_as s run st.faulty is faults;
+      wrote = wrote;
+      none = none;
+      fine = λ h. let x : false ≡ true = sym unclosed ∙ ap is_closed (sym is) ∙ h in absurd (cc);
     }
 
 emptied : (host : List ℕ) (st : State) (answers : Answers) (run : EndRun) → IsWithin st.table → after_shell host st stops.End answers run → AfterShell host stops.End st run
@@ -222,14 +263,19 @@ emptied host st answers run within does =
       output = λ h. inr (ap (any_failed is_failure) out ∙ end.output (sym status_is ∙ h));
       read = λ h. refl;
       faults = subst (λ (t : Status). IsTold t st.faulty) (sym status_is) end.faults;
+      wrote = λ h. wrote_as does.after.made.out run.made.out (last_text does.after.result) (last_text run.result) (sym out) (sym (ap last_text result)) end.wrote;
+      none = λ h. absurd (cc);
+      fine = λ h. ap (any_failed is_failure) out ∙ end.fine (sym (ap is_closed status_is) ∙ h);
     }
 
 after_stop : (host : List ℕ) (stop : Stop) (st : State) (answers : Answers) (run : EndRun) → IsWithin st.table → after_shell host st stop answers run → AfterShell host stop st run
 after_stop host stops.Output st answers run within does =
     stopped host stops.Output st status.Output run (ap (λ (r : EndRun). r.result) does) (λ h. cc) (λ h. cc) (λ h. absurd (cc)) (λ h. refl) (λ h. absurd (cc)) tt
+    (λ h. absurd (h refl)) (λ h. ap (λ (r : EndRun). r.made.out) does) refl
 after_stop host stops.Input st answers run within does =
     let said = says input_end (λ all. ending status.Input st) answers run does in
     stopped host stops.Input st status.Input run said.result (λ h. cc) (λ h. cc) (λ h. refl) (λ h. absurd (cc)) (λ h. absurd (cc)) tt
+    (λ h. wrote_as run.made.out run.made.out input_end (last_text run.result) refl (sym (ap last_text said.result)) said.wrote) (λ h. absurd (cc)) refl
 after_stop host stops.End st answers run within does = emptied host st answers run within does
 
 -- What a run of the program comes to.
@@ -248,6 +294,8 @@ record Outcome (words : List (List ℕ)) (bytes : List ℕ) (failed : Bool) (run
   starves : run.result.0 ≡ status.Memory → run.result.1.starved ≡ true
   starved : last.starved ≡ true → run.result.1.starved ≡ true
   faults : FaultsTold run.result.0 told
+  wrote : Wrote run.made.out (printed_by told ++ last_text run.result)
+  fine : is_closed run.result.0 ≡ true → any_failed is_failure run.made.out ≡ false
 
 -- a faulty state is one in which a line answered a fault
 faults_told : (s : Status) (told : List Told) (last : State) → WalkFaults told fresh_state last → IsTold s last.faulty → FaultsTold s told
@@ -279,7 +327,28 @@ refused_outcome words bytes failed answers run none does =
       starves = λ h. let x : status.Words ≡ status.Memory = sym is ∙ h in absurd (cc);
       starved = λ h. let x : false ≡ true = h in absurd (cc);
       faults = subst (λ (s : Status). FaultsTold s []) (sym is) tt;
+      wrote = wrote_as run.made.out run.made.out words_end (last_text run.result) refl (sym (ap last_text said.result)) said.wrote;
+      fine = λ h. let x : false ≡ true = sym (ap is_closed is) ∙ h in absurd (cc);
     }
+
+-- the lines and what is behind them
+wrote_all : (stop : Stop) (es fs : List Happened) (s t : List ℕ) → ((stop ≡ stops.Output → ⊥) → any_failed is_failure es ≡ false) → (stop ≡ stops.Output → any_failed is_failure es ≡ true)
+    → Wrote es s → ((stop ≡ stops.Output → ⊥) → Wrote fs t) → (stop ≡ stops.Output → fs ≡ []) → Wrote (es ++ fs) (s ++ t)
+wrote_all stops.Output es fs s t fine failed one two none =
+    wrote_as es (es ++ fs) (s ++ t) (s ++ t) (sym (ap (λ (l : List Happened). es ++ l) (none refl) ∙ append-nil es)) refl (wrote_cut es s t (failed refl) one)
+wrote_all stops.Input es fs s t fine failed one two none = wrote_then es fs s t (fine (λ h. cc)) one (two (λ h. cc))
+wrote_all stops.End es fs s t fine failed one two none = wrote_then es fs s t (fine (λ h. cc)) one (two (λ h. cc))
+
+closed_is_read : (s : Status) → is_closed s ≡ true → is_read s ≡ true
+closed_is_read status.Done h = refl
+closed_is_read status.Faults h = refl
+closed_is_read status.Words h = h
+closed_is_read status.Input h = h
+closed_is_read status.Output h = h
+closed_is_read status.Memory h = refl
+
+end_or_output : (stop : Stop) → stop ≡ stops.End → stop ≡ stops.Output → ⊥
+end_or_output stop one other = let x : stops.End ≡ stops.Output = sym one ∙ other in absurd (cc)
 
 nothing_last : (a : List ℕ) → a ++ 47 ∷ [] ≡ [] → ⊥
 nothing_last [] is = cc
@@ -337,6 +406,15 @@ on_outcome words host bytes failed answers run base does =
       starved = λ h. ap (λ (e : Ending). e.1.starved) result ∙ end.starved h;
       faults = subst (λ (s : Status). FaultsTold s told.told) (sym status_is)
           (faults_told does.after.result.0 told.told below.result.1 (walk_faults told.told fresh_state below.result.1 told.walked) end.faults);
+      wrote = wrote_as (below.made ++ does.after.made.out) run.made.out (printed_by told.told ++ last_text does.after.result) (printed_by told.told ++ last_text run.result)
+          (sym out) (ap (λ (e : Ending). printed_by told.told ++ last_text e) (sym result))
+          (wrote_all below.result.0 below.made does.after.made.out (printed_by told.told) (last_text does.after.result) told.fine told.sink told.wrote end.wrote end.none);
+      fine = λ h.
+          let closed : is_closed does.after.result.0 ≡ true = sym (ap is_closed status_is) ∙ h in
+          let stop = end.read (closed_is_read does.after.result.0 closed) in
+          ap (any_failed is_failure) out
+          ∙ any_failed-append is_failure below.made does.after.made.out (told.fine (end_or_output below.result.0 stop))
+          ∙ end.fine closed;
     }
 
 outcome : (words : List (List ℕ)) (bytes : List ℕ) (failed : Bool) (answers : Answers) (run : EndRun) → Runs words bytes failed answers run → Outcome words bytes failed run
@@ -350,6 +428,14 @@ all_read status.Memory rest all = all refl
 all_read status.Words rest all = tt
 all_read status.Input rest all = tt
 all_read status.Output rest all = tt
+
+all_written : (s : Status) (events : List Happened) → (is_closed s ≡ true → any_failed is_failure events ≡ false) → AllWritten s events
+all_written status.Done events fine = fine refl
+all_written status.Faults events fine = fine refl
+all_written status.Words events fine = tt
+all_written status.Input events fine = tt
+all_written status.Output events fine = tt
+all_written status.Memory events fine = tt
 
 -- the whole run that a `Ran` tells of
 whole_of : (words : List (List ℕ)) (s0 s1 o p u v : DeviceLog) (end : Ending) (ran : Ran words s0 s1 o p u v end)
@@ -375,6 +461,8 @@ keeps words s0 s1 o p u v end ran =
       lines = all.lines;
       all = all_read end.0 all.rest all.all;
       answered = all.answered;
+      wrote = all.wrote;
+      written = all_written end.0 (ran.does.made.out ++ []) all.fine;
       faults = all.faults;
       done = all.done;
       starved = all.starved;

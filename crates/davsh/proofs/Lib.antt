@@ -11,3 +11,4 @@ pub mod Putting
 pub mod Storing
 pub mod Telling
 pub mod Walking
+pub mod Writing

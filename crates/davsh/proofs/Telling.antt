@@ -3,13 +3,15 @@ use Rattle.std.proofs.Common.{◌≡◌, inl, inr, ℕ, List, [], ◌∷◌, ◌
 use Rattle.dav_machine.specs.Log.{any_failed}
 use Rattle.dav_machine.specs.Devices.{one_device}
 use Rattle.dav_machine.specs.Machine.{Run, run_with, prepend, give, and_then}
+use Rattle.dav_machine.proofs.Logs.{any_failed-append}
 use Rattle.dav_edge.specs.Device.{Answer, Happened, ByteMachine, is_failure}
 use Rattle.dav_edge.proofs.Sending.{sent_so}
 use Rattle.davsh.specs.declared.stop.Stop.{Stop}
 use Rattle.davsh.specs.declared.stop.Stop.TheVariants.{End, Input, Output}
 use Rattle.davsh.specs.Line.{without_return, lines_from}
 use Rattle.davsh.specs.Shell.{State, counted, Answered, Carries, goes_on, AtEnd, Shell}
-use Rattle.davsh.specs.Kept.{Told, line_of, Walks}
+use Rattle.davsh.specs.Kept.{Told, line_of, Walks, printed_by, Wrote}
+use Rattle.davsh.proofs.Writing.{wrote_none, wrote_sent, wrote_as, wrote_then}
 
 abbrev ShellRun : Type 0
 ShellRun = Run (List Happened) (List Answer) (Stop × State)
@@ -24,6 +26,8 @@ pub record Tells (lines : List (List ℕ)) (failed : Bool) (before : State) (run
   pub walked : Walks before told run.result.1
   pub source : run.result.0 ≡ Input → failed ≡ true
   pub sink : run.result.0 ≡ Output → any_failed is_failure run.made ≡ true
+  pub fine : (run.result.0 ≡ Output → ⊥) → any_failed is_failure run.made ≡ false
+  pub wrote : Wrote run.made (printed_by told)
 
 -- one line that was carried out
 record One (line : List ℕ) (before : State) (run : Run (List Happened) (List Answer) (Bool × State)) : Type 0 where
@@ -33,6 +37,7 @@ record One (line : List ℕ) (before : State) (run : Run (List Happened) (List A
   answered : Answered before line printed now
   result : run.result ≡ (went, if went then counted now else now)
   failed : any_failed is_failure run.made ≡ not went
+  wrote : Wrote run.made printed
 
 one_line : (line : List ℕ) (before : State) (answers : List Answer) (run : Run (List Happened) (List Answer) (Bool × State)) → Carries line before answers run → One line before run
 one_line line before answers run carries =
@@ -49,6 +54,9 @@ one_line line before answers run carries =
       answered = carries.answered;
       result = ap (λ (r : Run (List Happened) (List Answer) (Bool × State)). r.result) whole;
       failed = ap (λ (r : Run (List Happened) (List Answer) (Bool × State)). any_failed is_failure r.made) whole ∙ ap (any_failed is_failure) (append-nil sent.made) ∙ so.failed;
+      wrote = wrote_as sent.made run.made carries.printed carries.printed
+          (sym (ap (λ (r : Run (List Happened) (List Answer) (Bool × State)). r.made) whole ∙ append-nil sent.made)) refl
+          (wrote_sent carries.printed sent so);
     }
 
 abbrev told_line : List ℕ → List ℕ → Told
@@ -66,12 +74,12 @@ any_later (e ∷ es) fs h = or_true (is_failure e.answer) (any_failed is_failure
 -- The line was carried out and the shell went on, or stopped since the sink failed.
 line_then : (line : List ℕ) (lines : List (List ℕ)) (failed : Bool) (before : State) (first : Run (List Happened) (List Answer) (Bool × State)) (went : Bool) (printed : List ℕ) (now : State)
     (next : State → ByteMachine (Stop × State)) (after run : ShellRun)
-    → Answered before line printed now → any_failed is_failure first.made ≡ not went
+    → Answered before line printed now → any_failed is_failure first.made ≡ not went → Wrote first.made printed
     → goes_on (next (if went then counted now else now)) (if went then counted now else now) went first.left after
     → run ≡ prepend one_device first.made after
     → ((st : State) (answers : List Answer) (r : ShellRun) → next st answers r → Tells lines failed st r)
     → Tells (line ∷ lines) failed before run
-line_then line lines failed before first true printed now next after run answered faulted does whole then_ =
+line_then line lines failed before first true printed now next after run answered faulted wrote does whole then_ =
     let later = then_ (counted now) first.left after does in
     subst (Tells (line ∷ lines) failed before) (sym whole) (record {
       told = told_line line printed ∷ later.told;
@@ -81,8 +89,10 @@ line_then line lines failed before first true printed now next after run answere
       walked = (now, answered, inr later.walked);
       source = later.source;
       sink = λ out. any_later first.made after.made (later.sink out);
+      fine = λ none. any_failed-append is_failure first.made after.made faulted ∙ later.fine none;
+      wrote = wrote_then first.made after.made printed (printed_by later.told) faulted wrote later.wrote;
     })
-line_then line lines failed before first false printed now next after run answered faulted does whole then_ =
+line_then line lines failed before first false printed now next after run answered faulted wrote does whole then_ =
     let whole' : run ≡ run_with (Output, now) (first.made ++ []) first.left = whole ∙ ap (prepend one_device first.made) does in
     subst (Tells (line ∷ lines) failed before) (sym whole') (record {
       told = told_line line printed ∷ [];
@@ -92,6 +102,8 @@ line_then line lines failed before first false printed now next after run answer
       walked = (now, answered, inl (refl, refl));
       source = λ is. absurd (cc);
       sink = λ out. ap (any_failed is_failure) (append-nil first.made) ∙ faulted;
+      fine = λ none. absurd (none refl);
+      wrote = wrote_as first.made (first.made ++ []) printed (printed ++ []) (sym (append-nil first.made)) (sym (append-nil printed)) wrote;
     })
 
 line_told : (line : List ℕ) (lines : List (List ℕ)) (failed : Bool) (before : State) (answers : List Answer) (run : ShellRun) (next : State → ByteMachine (Stop × State))
@@ -100,7 +112,7 @@ line_told : (line : List ℕ) (lines : List (List ℕ)) (failed : Bool) (before 
     → Tells (line ∷ lines) failed before run
 line_told line lines failed before answers run next does then_ =
     let one = one_line line before answers does.before does.begins in
-    line_then line lines failed before does.before one.went one.printed one.now next does.after run one.answered one.failed
+    line_then line lines failed before does.before one.went one.printed one.now next does.after run one.answered one.failed one.wrote
     (subst (λ (r : Bool × State). goes_on (next r.1) r.1 r.0 does.before.left does.after) one.result does.goes_on)
     does.whole then_
 
@@ -114,6 +126,8 @@ input_ended before answers run does =
       walked = refl;
       source = λ is. absurd (cc);
       sink = λ is. absurd (cc);
+      fine = λ none. refl;
+      wrote = wrote_none;
     })
 
 at_end : (failed : Bool) (begun : List ℕ) (before : State) (answers : List Answer) (run : ShellRun) → AtEnd failed begun before answers run → Tells (lines_from [] begun) failed before run
@@ -126,6 +140,8 @@ at_end true begun before answers run does =
       walked = refl;
       source = λ is. refl;
       sink = λ is. absurd (cc);
+      fine = λ none. refl;
+      wrote = wrote_none;
     })
 at_end false [] before answers run does = input_ended before answers run does
 at_end false (b ∷ begun) before answers run does =

@@ -1,6 +1,7 @@
 -- What a caller of a run may rely on.
-use Rattle.std.specs.Prelude.{◌≡◌, ◌⊎◌, ℕ, List, [], ◌∷◌, ◌++◌, map, length, codes, Contains, true}
-use Rattle.dav_edge.specs.Device.{Happened, DeviceLog, Grew, given}
+use Rattle.std.specs.Prelude.{◌≡◌, ◌⊎◌, ℕ, List, [], ◌∷◌, ◌++◌, map, length, codes, Contains, true, false}
+use Rattle.dav_machine.specs.Log.{any_failed}
+use Rattle.dav_edge.specs.Device.{Happened, DeviceLog, Grew, given, taken, is_failure}
 use Rattle.dav_edge.specs.Connections.{Connection, connections_of}
 use Rattle.dav_text.specs.declared.method.Method.TheVariants.{Put}
 use Rattle.dav_text.specs.Path.{PathParts}
@@ -9,12 +10,12 @@ use Rattle.dav_frame.specs.Framing.{Framing, Gives as GivesReply}
 use Rattle.dav_desk.specs.Kept.{HoldsFile}
 use Rattle.davsh.specs.declared.ended.Ended.{Ended}
 use Rattle.davsh.specs.declared.ended.Status.{Status}
-use Rattle.davsh.specs.declared.ended.Status.TheVariants.{Done, Faults, Memory}
+use Rattle.davsh.specs.declared.ended.Status.TheVariants.{Done, Faults, Words, Input, Memory}
 use Rattle.davsh.specs.Words.{IsBase}
 use Rattle.davsh.specs.Line.{lines_of, IsPut}
 use Rattle.davsh.specs.Shell.{State, fresh_state, counted, closed_line, Answered}
 use Rattle.davsh.specs.Exchange.{put_text, is_success}
-use Rattle.davsh.specs.Run.{Made, BothGrew, Ending, EndHeard}
+use Rattle.davsh.specs.Run.{Made, BothGrew, Ending, words_end, input_end, memory_end, left_text, EndHeard}
 
 -- a line that was carried out, and what was printed of it
 pub record Told : Type 0 where
@@ -82,6 +83,30 @@ FaultsTold Done told = ¬ (AnyFault told)
 FaultsTold Faults told = AnyFault told
 FaultsTold _ told = Unit {0}
 
+-- what the lines printed, one after another
+abbrev pub printed_by : List Told → List ℕ
+printed_by [] = []
+printed_by (told ∷ more) = told.printed ++ printed_by more
+
+-- what is to be written behind the lines
+abbrev pub last_text : Ending → List ℕ
+last_text (Words, end) = words_end
+last_text (Input, end) = input_end
+last_text (Memory, end) = memory_end
+last_text (_, end) = left_text (length end.queued) (length end.lost)
+
+-- the sink took a beginning of the text in these calls, and the whole where none of them failed
+pub record Wrote (events : List Happened) (text : List ℕ) : Type 0 where
+  pub cut : List ℕ
+  pub beginning : taken events ++ cut ≡ text
+  pub whole : any_failed is_failure events ≡ false → taken events ≡ text
+
+-- at these statuses no call on the sink failed
+abbrev pub AllWritten : Status → List Happened → Type 0
+AllWritten Done events = any_failed is_failure events ≡ false
+AllWritten Faults events = any_failed is_failure events ≡ false
+AllWritten _ events = Unit {0}
+
 -- at these statuses every line of the input was carried out
 abbrev pub AllRead : Status → List (List ℕ) → Type 0
 AllRead Done rest = rest ≡ []
@@ -89,8 +114,8 @@ AllRead Faults rest = rest ≡ []
 AllRead Memory rest = rest ≡ []
 AllRead _ rest = Unit {0}
 
--- The source gave these bytes, and their first lines were carried out, with these answers. For each path the
--- bytes of the last line that closed it are kept.
+-- The source gave these bytes, and their first lines were carried out, with these answers. The sink took what they
+-- printed, in their order, and a last line. For each path the bytes of the last line that closed it are kept.
 pub record Keeps (words : List (List ℕ)) (source_old source_new out_old out_new up_old up_new : DeviceLog) (end : Ending) : Type 0 where
   pub heard : List Happened
   pub made : Made
@@ -103,6 +128,8 @@ pub record Keeps (words : List (List ℕ)) (source_old source_new out_old out_ne
   pub lines : lines_of (given heard) ≡ map line_of told ++ rest
   pub all : AllRead end.0 rest
   pub answered : Walks fresh_state told last
+  pub wrote : Wrote made.out (printed_by told ++ last_text end)
+  pub written : AllWritten end.0 made.out
   pub faults : FaultsTold end.0 told
   pub done : last.done ≡ end.1.done
   pub starved : last.starved ≡ true → end.1.starved ≡ true
