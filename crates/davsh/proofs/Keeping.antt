@@ -4,14 +4,17 @@ use Rattle.dav_machine.specs.Log.{any_failed, Rose}
 use Rattle.dav_machine.specs.Machine.{Run, run_with, give, and_then}
 use Rattle.dav_machine.specs.Part.{lift}
 use Rattle.dav_machine.proofs.Logs.{any_failed-append}
+use Rattle.dav_edge.specs.Connections.{Connection, connections_of}
+use Rattle.std.specs.List.{All}
 use Rattle.std.proofs.lemmas.List.{length-map}
+use Rattle.std.proofs.lemmas.List.Elements.{All-nil, All-weaker}
 use Rattle.dav_edge.specs.Device.{Happened, DeviceLog, given, is_failure}
 use Rattle.dav_edge.specs.Whole.{Sends}
 use Rattle.dav_edge.proofs.Sending.{sent_so}
 use Rattle.dav_text.specs.Path.{PathParts}
 use Rattle.dav_desk.specs.Kept.{HoldsFile, file_of, lost_file_of, files_of, lost_files_of}
 use Rattle.dav_desk.specs.Table.{Table, IsWithin, IsQueued}
-use Rattle.dav_desk.proofs.Laws.{fresh_is_within}
+use Rattle.dav_desk.proofs.Laws.{fresh_is_within, fresh_queues_nothing}
 use Rattle.davsh.specs.declared.ended.Status.{Status}
 use Rattle.davsh.specs.declared.ended.Ended.{Ended}
 use Rattle.davsh.specs.declared.ended.Status.TheVariants as status
@@ -21,10 +24,11 @@ use Rattle.davsh.specs.Words.{IsBase, HasNoBase}
 use Rattle.davsh.specs.Line.{lines_of}
 use Rattle.davsh.specs.Shell.{State, fresh_state}
 use Rattle.davsh.specs.Run.{Made, Answers, answers_of, both, the_sink, BothGrew, Ending, ending, with_table, without_memory, Says, words_end, input_end, memory_end, Starves, closing_status, left_text, Closes, tells, memory, after_drain, after_shell, RunsOn, Runs, refused, on, Ran}
-use Rattle.davsh.specs.Kept.{Told, line_of, Walks, IsLastClose, WasPut, IsKept, FaultsTold, AllRead, printed_by, last_text, Wrote, AllWritten, Keeps}
+use Rattle.davsh.specs.Kept.{Told, line_of, Walks, IsLastClose, WasPut, IsKept, FaultsTold, AllRead, printed_by, last_text, Wrote, IsOfClose, AllWritten, Keeps}
 use Rattle.davsh.proofs.Telling.{shell_told}
+use Rattle.davsh.proofs.Requests.{IsPutOf, drain_puts}
 use Rattle.davsh.proofs.Writing.{wrote_sent, wrote_as, wrote_then, wrote_cut}
-use Rattle.davsh.proofs.Walking.{walk_keeps, WalkFaults, walk_faults}
+use Rattle.davsh.proofs.Walking.{walk_keeps, walk_back, WalkFaults, walk_faults}
 use Rattle.davsh.proofs.Emptying.{put_first, was_put, drained}
 
 abbrev pub EndRun : Type 0
@@ -93,6 +97,7 @@ pub record Said (line : List ℕ) (end : Bool → Ending) (run : EndRun) : Type 
   pub failed : all ≡ false → any_failed is_failure run.made.out ≡ true
   pub fine : all ≡ true → any_failed is_failure run.made.out ≡ false
   pub wrote : Wrote run.made.out line
+  pub silent : run.made.up ≡ []
 
 pub says : (line : List ℕ) (end : Bool → Ending) (answers : Answers) (run : EndRun) → and_then both (lift the_sink (Sends line)) (λ all. give both (end all)) answers run → Said line end run
 says line end answers run does =
@@ -109,6 +114,9 @@ says line end answers run does =
       failed = λ none. ap (any_failed is_failure) (made ∙ append-nil below.made) ∙ so.failed ∙ ap not none;
       fine = λ went. ap (any_failed is_failure) (made ∙ append-nil below.made) ∙ so.failed ∙ ap not went;
       wrote = wrote_as below.made run.made.out line line (sym (made ∙ append-nil below.made)) refl (wrote_sent line below so);
+      silent = ap (λ (r : EndRun). r.made.up) does.whole
+          ∙ ap (λ (r : EndRun). does.before.made.up ++ r.made.up) does.goes_on
+          ∙ ap (λ (r : Run Made Answers Bool). r.made.up ++ []) does.begins.is;
     }
 
 -- the end of the run behind the drain
@@ -120,6 +128,7 @@ pub record AfterDrain (st : State) (run : EndRun) : Type 0 where
   pub faults : IsTold run.result.0 st.faulty
   pub wrote : Wrote run.made.out (last_text run.result)
   pub fine : is_closed run.result.0 ≡ true → any_failed is_failure run.made.out ≡ false
+  pub silent : run.made.up ≡ []
 
 told_as : (s : Status) (run : EndRun) (faulty : Bool) → run.result.0 ≡ s → IsTold s faulty → IsTold run.result.0 faulty
 told_as s run faulty is told = subst (λ (t : Status). IsTold t faulty) (sym is) told
@@ -137,6 +146,7 @@ starved_end st answers run does =
       faults = told_as status.Memory run st.faulty is tt;
       wrote = wrote_as run.made.out run.made.out memory_end (last_text run.result) refl (sym (ap last_text said.result)) said.wrote;
       fine = λ h. let x : false ≡ true = sym (ap is_closed is) ∙ h in absurd (cc);
+      silent = said.silent;
     }
 
 closed_by : (faulty : Bool) → (if faulty then status.Faults else status.Done) ≡ status.Words → ⊥
@@ -166,8 +176,8 @@ closed_text true end = refl
 closed_text false end = refl
 
 told_by : (st : State) (run : EndRun) (all : Bool) → run.result ≡ ending (if all then closing_status st else status.Output) st → (all ≡ false → any_failed is_failure run.made.out ≡ true)
-    → (all ≡ true → any_failed is_failure run.made.out ≡ false) → Wrote run.made.out (left_text (length st.table.queued) (length st.table.lost)) → AfterDrain st run
-told_by st run true result failed fine wrote =
+    → (all ≡ true → any_failed is_failure run.made.out ≡ false) → Wrote run.made.out (left_text (length st.table.queued) (length st.table.lost)) → run.made.up ≡ [] → AfterDrain st run
+told_by st run true result failed fine wrote silent =
     let is : run.result.0 ≡ closing_status st = ap (λ (e : Ending). e.0) result in record {
       ends = ends_as (closing_status st) st run (λ m. absurd (closed_memory st.faulty m)) result;
       not_words = λ h. closed_by st.faulty (sym is ∙ h);
@@ -177,8 +187,9 @@ told_by st run true result failed fine wrote =
       wrote = wrote_as run.made.out run.made.out _ (last_text run.result) refl
           (same_left st ∙ sym (closed_text st.faulty (ending status.Done st).1) ∙ sym (ap last_text result)) wrote;
       fine = λ h. fine refl;
+      silent = silent;
     }
-told_by st run false result failed fine wrote =
+told_by st run false result failed fine wrote silent =
     let is : run.result.0 ≡ status.Output = ap (λ (e : Ending). e.0) result in record {
       ends = ends_as status.Output st run (λ m. absurd (cc)) result;
       not_words = λ h. let x : status.Output ≡ status.Words = sym is ∙ h in cc;
@@ -187,12 +198,13 @@ told_by st run false result failed fine wrote =
       faults = told_as status.Output run st.faulty is tt;
       wrote = wrote_as run.made.out run.made.out _ (last_text run.result) refl (same_left st ∙ sym (ap last_text result)) wrote;
       fine = λ h. let x : false ≡ true = sym (ap is_closed is) ∙ h in absurd (cc);
+      silent = silent;
     }
 
 closed_end : (st : State) (answers : Answers) (run : EndRun) → Closes st answers run → AfterDrain st run
 closed_end st answers run (tells does) =
     let said = says (left_text (length st.table.queued) (length st.table.lost)) (λ all. ending (if all then closing_status st else status.Output) st) answers run does in
-    told_by st run said.all said.result said.failed said.fine said.wrote
+    told_by st run said.all said.result said.failed said.fine said.wrote said.silent
 closed_end st answers run (memory does) = starved_end st answers run does
 
 pub drained_end : (st : State) (went : Bool) (answers : Answers) (run : EndRun) → after_drain st went answers run → AfterDrain st run
@@ -213,11 +225,12 @@ record AfterShell (host : List ℕ) (stop : Stop) (st : State) (run : EndRun) : 
   wrote : (stop ≡ stops.Output → ⊥) → Wrote run.made.out (last_text run.result)
   none : stop ≡ stops.Output → run.made.out ≡ []
   fine : is_closed run.result.0 ≡ true → any_failed is_failure run.made.out ≡ false
+  puts : All (IsPutOf host st.table) (connections_of run.made.up)
 
 stopped : (host : List ℕ) (stop : Stop) (st : State) (s : Status) (run : EndRun) → run.result ≡ ending s st → (s ≡ status.Memory → ⊥) → (s ≡ status.Words → ⊥)
     → (s ≡ status.Input → stop ≡ stops.Input) → (s ≡ status.Output → stop ≡ stops.Output) → (is_read s ≡ true → stop ≡ stops.End) → IsTold s st.faulty
-    → ((stop ≡ stops.Output → ⊥) → Wrote run.made.out (last_text run.result)) → (stop ≡ stops.Output → run.made.out ≡ []) → (is_closed s ≡ false) → AfterShell host stop st run
-stopped host stop st s run result not_memory not_words input output read faults wrote none unclosed =
+    → ((stop ≡ stops.Output → ⊥) → Wrote run.made.out (last_text run.result)) → (stop ≡ stops.Output → run.made.out ≡ []) → (is_closed s ≡ false) → run.made.up ≡ [] → AfterShell host stop st run
+stopped host stop st s run result not_memory not_words input output read faults wrote none unclosed silent =
     let is : run.result.0 ≡ s = ap (λ (e : Ending). e.0) result in record {
       kept = λ path bytes queued. inl (subst (λ (e : Ending). HoldsFile e.1.queued path bytes) (sym result) queued);
       done = ap (λ (e : Ending). e.1.done) result;
@@ -231,6 +244,7 @@ stopped host stop st s run result not_memory not_words input output read faults 
       wrote = wrote;
       none = none;
       fine = λ h. let x : false ≡ true = sym unclosed ∙ ap is_closed (sym is) ∙ h in absurd (cc);
+      puts = subst (λ (l : List Happened). All (IsPutOf host st.table) (connections_of l)) (sym silent) (All-nil (IsPutOf host st.table));
     }
 
 emptied : (host : List ℕ) (st : State) (answers : Answers) (run : EndRun) → IsWithin st.table → after_shell host st stops.End answers run → AfterShell host stops.End st run
@@ -266,16 +280,19 @@ emptied host st answers run within does =
       wrote = λ h. wrote_as does.after.made.out run.made.out (last_text does.after.result) (last_text run.result) (sym out) (sym (ap last_text result)) end.wrote;
       none = λ h. absurd (cc);
       fine = λ h. ap (any_failed is_failure) out ∙ end.fine (sym (ap is_closed status_is) ∙ h);
+      puts = subst (λ (l : List Happened). All (IsPutOf host st.table) (connections_of l))
+          (sym (up ∙ ap (λ (l : List Happened). below.made ++ l) end.silent ∙ append-nil below.made))
+          (drain_puts host st.table answers.up below does.begins.does);
     }
 
 after_stop : (host : List ℕ) (stop : Stop) (st : State) (answers : Answers) (run : EndRun) → IsWithin st.table → after_shell host st stop answers run → AfterShell host stop st run
 after_stop host stops.Output st answers run within does =
     stopped host stops.Output st status.Output run (ap (λ (r : EndRun). r.result) does) (λ h. cc) (λ h. cc) (λ h. absurd (cc)) (λ h. refl) (λ h. absurd (cc)) tt
-    (λ h. absurd (h refl)) (λ h. ap (λ (r : EndRun). r.made.out) does) refl
+    (λ h. absurd (h refl)) (λ h. ap (λ (r : EndRun). r.made.out) does) refl (ap (λ (r : EndRun). r.made.up) does)
 after_stop host stops.Input st answers run within does =
     let said = says input_end (λ all. ending status.Input st) answers run does in
     stopped host stops.Input st status.Input run said.result (λ h. cc) (λ h. cc) (λ h. refl) (λ h. absurd (cc)) (λ h. absurd (cc)) tt
-    (λ h. wrote_as run.made.out run.made.out input_end (last_text run.result) refl (sym (ap last_text said.result)) said.wrote) (λ h. absurd (cc)) refl
+    (λ h. wrote_as run.made.out run.made.out input_end (last_text run.result) refl (sym (ap last_text said.result)) said.wrote) (λ h. absurd (cc)) refl said.silent
 after_stop host stops.End st answers run within does = emptied host st answers run within does
 
 -- What a run of the program comes to.
@@ -296,6 +313,7 @@ record Outcome (words : List (List ℕ)) (bytes : List ℕ) (failed : Bool) (run
   faults : FaultsTold run.result.0 told
   wrote : Wrote run.made.out (printed_by told ++ last_text run.result)
   fine : is_closed run.result.0 ≡ true → any_failed is_failure run.made.out ≡ false
+  sent : (host : List ℕ) → IsBase words host → All (IsOfClose host told) (connections_of run.made.up)
 
 -- a faulty state is one in which a line answered a fault
 faults_told : (s : Status) (told : List Told) (last : State) → WalkFaults told fresh_state last → IsTold s last.faulty → FaultsTold s told
@@ -329,7 +347,15 @@ refused_outcome words bytes failed answers run none does =
       faults = subst (λ (s : Status). FaultsTold s []) (sym is) tt;
       wrote = wrote_as run.made.out run.made.out words_end (last_text run.result) refl (sym (ap last_text said.result)) said.wrote;
       fine = λ h. let x : false ≡ true = sym (ap is_closed is) ∙ h in absurd (cc);
+      sent = λ host base. subst (λ (l : List Happened). All (IsOfClose host []) (connections_of l)) (sym said.silent) (All-nil (IsOfClose host []));
     }
+
+-- a file that is queued behind the lines was closed last by one of them
+of_close : (host : List ℕ) (told : List Told) (last : State) → Walks fresh_state told last → (c : Connection) → IsPutOf host last.table c → IsOfClose host told c
+of_close host told last walks c put = elim (walk_back told fresh_state last put.path put.bytes fresh_is_within walks put.queued) [
+  | inl close ↦ record { path = put.path; bytes = put.bytes; close = close; begun = put.begun }
+  | inr was ↦ absurd (fresh_queues_nothing put.path put.bytes was.0)
+]
 
 -- the lines and what is behind them
 wrote_all : (stop : Stop) (es fs : List Happened) (s t : List ℕ) → ((stop ≡ stops.Output → ⊥) → any_failed is_failure es ≡ false) → (stop ≡ stops.Output → any_failed is_failure es ≡ true)
@@ -415,6 +441,10 @@ on_outcome words host bytes failed answers run base does =
           ap (any_failed is_failure) out
           ∙ any_failed-append is_failure below.made does.after.made.out (told.fine (end_or_output below.result.0 stop))
           ∙ end.fine closed;
+      sent = λ other same.
+          subst (λ (h : List ℕ). All (IsOfClose h told.told) (connections_of run.made.up)) (base_unique words host other base same)
+          (subst (λ (l : List Happened). All (IsOfClose host told.told) (connections_of l)) (sym up)
+          (All-weaker (IsPutOf host below.result.1.table) (IsOfClose host told.told) (of_close host told.told below.result.1 told.walked) (connections_of does.after.made.up) end.puts));
     }
 
 outcome : (words : List (List ℕ)) (bytes : List ℕ) (failed : Bool) (answers : Answers) (run : EndRun) → Runs words bytes failed answers run → Outcome words bytes failed run
@@ -467,6 +497,7 @@ keeps words s0 s1 o p u v end ran =
       done = all.done;
       starved = all.starved;
       kept = all.kept;
+      sent = all.sent;
     }
 
 pub words_refused : (words : List (List ℕ)) (s0 s1 o p u v : DeviceLog) (end : Ending) → Ran words s0 s1 o p u v end → (end.0 ≡ status.Words) ↔ HasNoBase words

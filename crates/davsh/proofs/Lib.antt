@@ -12,3 +12,4 @@ pub mod Storing
 pub mod Telling
 pub mod Walking
 pub mod Writing
+pub mod Requests

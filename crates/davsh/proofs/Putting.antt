@@ -136,11 +136,11 @@ talks_by text status answers run false does sent hears heard =
 talks_replied : (text : List ℕ) (status : ℕ) (answers : List Answer) (run : HeardRun) → Talks text answers run → run.result ≡ Ok (Some status) → Talked text status run.made
 talks_replied text status answers run does heard = talks_by text status answers run does.before.result does refl does.goes_on heard
 
-record ShutDown (heard : Heard) (run : HeardRun) : Type 0 where
-  result : run.result ≡ heard
-  ends : (cs : Connections) → after_calls cs run.made ≡ with_standing (all_of cs) None
+pub record ShutDown (heard : Heard) (run : HeardRun) : Type 0 where
+  pub result : run.result ≡ heard
+  pub ends : (cs : Connections) → after_calls cs run.made ≡ with_standing (all_of cs) None
 
-shuts_down : (heard : Heard) (answers : List Answer) (run : HeardRun) → Shuts heard answers run → ShutDown heard run
+pub shuts_down : (heard : Heard) (answers : List Answer) (run : HeardRun) → Shuts heard answers run → ShutDown heard run
 shuts_down heard [] run does = absurd does
 shuts_down heard (Fails ∷ more) run does = absurd does
 shuts_down heard (Takes n ∷ more) run does = absurd does

@@ -7,7 +7,11 @@ use Rattle.dav_desk.specs.Table.{Table, IsWithin, IsQueued}
 use Rattle.dav_desk.specs.After.{after}
 use Rattle.dav_desk.specs.declared.answer.Answer.{Answer as DeskAnswer}
 use Rattle.dav_desk.specs.declared.ask.Ask.TheVariants.{Store}
-use Rattle.dav_desk.proofs.Laws.{store_queues, store_keeps_others, store_is_within, store_loses_nothing}
+use Rattle.dav_desk.proofs.Laws.{store_queues, store_keeps_others, store_queues_no_other, store_leaves_no_older, store_is_within, store_loses_nothing}
+use Rattle.dav_desk.specs.Entries.{same_segments}
+use Rattle.dav_desk.proofs.Every.{by_test}
+use Rattle.dav_desk.proofs.Searches.{same_segments_true, segments_from_same}
+use Rattle.std.proofs.lemmas.Bool.{false≢true}
 use Rattle.davsh.specs.Line.{IsPut}
 use Rattle.davsh.specs.Shell.{State, counted, closed_line, limit_line, which_name, Answered, nothing, syntax, closed, limit, memory}
 use Rattle.davsh.specs.Kept.{Told, Walks, IsClose, NoClose, IsLastClose, IsFault, AnyFault}
@@ -109,6 +113,71 @@ walk_keeps (t ∷ told) before end within (now, answered, inr walks) =
     let one = keeps_one t before now within answered in
     let more = walk_keeps told (counted now) end one.within walks in
     walk_more t told before now end one (record { within = more.within; lost = more.lost; stays = more.stays; last = more.last })
+
+-- what one line queues, it closed; and what it leaves, it did not close
+abbrev IsBack : Told → State → PathParts → List ℕ → Type 0
+IsBack told before path bytes = IsClose told path bytes ⊎ (IsQueued before.table path bytes × ((b : List ℕ) → IsClose told path b → ⊥))
+
+back_same : (told : Told) (before now : State) (path : PathParts) (bytes : List ℕ) → now.table ≡ before.table → ((named : PathParts) (len : ℕ) → told.printed ≡ closed_line named len → ⊥) → IsQueued now.table path bytes → IsBack told before path bytes
+back_same told before now path bytes same other queued =
+    inr (subst (λ (t : Table). IsQueued t path bytes) same queued, λ b close. other close.typed (length b) close.printed)
+
+back_closed : (told : Told) (before now : State) (named : PathParts) (stored : List ℕ) (table : Table) (answer : DeskAnswer) (path : PathParts) (bytes : List ℕ) → IsWithin before.table → IsPut told.line named stored
+    → after before.table (Store named stored) ≡ (table, Ok answer) → told.printed ≡ closed_line named (length stored) → now.table ≡ table → IsQueued now.table path bytes → IsBack told before path bytes
+back_closed told before now named stored table answer path bytes within put step printed is queued =
+    let here : IsQueued table path bytes = subst (λ (t : Table). IsQueued t path bytes) is queued in
+    by_test (same_segments path.segments named.segments)
+    (λ is_same.
+    let same : path.segments ≡ named.segments = segments_from_same path.segments named.segments is_same in
+    let bytes_are : bytes ≡ stored = store_leaves_no_older before.table named stored table answer within step bytes (holds_same _ path named bytes same here) in
+    inl (record {
+      typed = named;
+      put = subst (λ (l : List ℕ). IsPut told.line named l) (sym bytes_are) put;
+      same = sym same;
+      printed = printed ∙ ap (λ (l : List ℕ). closed_line named (length l)) (sym bytes_are);
+    }))
+    (λ is_other.
+    let other : path.segments ≡ named.segments → ⊥ = λ same. false≢true (sym is_other ∙ same_segments_true path.segments named.segments same) in
+    inr (
+      store_queues_no_other before.table named stored table answer step path bytes other here,
+      λ b close.
+          let one = put_unique told.line named close.typed stored b put close.put in
+          other (sym (ap (λ (p : PathParts). p.segments) one.0 ∙ close.same)),
+    ))
+
+back_one : (told : Told) (before now : State) (path : PathParts) (bytes : List ℕ) → IsWithin before.table → Answered before told.line told.printed now → IsQueued now.table path bytes → IsBack told before path bytes
+back_one told before now path bytes within (nothing empty printed is) queued =
+    back_same told before now path bytes (ap (λ (s : State). s.table) is) (λ p len same. let h : 0 ≡ 99 = ap first_byte (sym printed ∙ same) in absurd (omega arith)) queued
+back_one told before now path bytes within (syntax some none printed is) queued =
+    back_same told before now path bytes (ap (λ (s : State). s.table) is) (λ p len same. let h : 102 ≡ 99 = ap first_byte (sym printed ∙ same) in absurd (omega arith)) queued
+back_one told before now path bytes within (closed named stored table answer put step printed is) queued =
+    back_closed told before now named stored table answer path bytes within put step printed (ap (λ (s : State). s.table) is) queued
+back_one told before now path bytes within (limit named stored which put step printed is) queued =
+    back_same told before now path bytes (ap (λ (s : State). s.table) is) (λ p len same. limit_first which p len (sym printed ∙ same)) queued
+back_one told before now path bytes within (memory printed is) queued =
+    back_same told before now path bytes (ap (λ (s : State). s.table) is) (λ p len same. let h : 102 ≡ 99 = ap first_byte (sym printed ∙ same) in absurd (omega arith)) queued
+
+-- what is queued behind some lines was closed last by one of them, or was queued before and closed by none
+abbrev IsWalkBack : List Told → State → PathParts → List ℕ → Type 0
+IsWalkBack told before path bytes = IsLastClose told path bytes ⊎ (IsQueued before.table path bytes × NoClose told path)
+
+back_then : (t : Told) (told : List Told) (before now : State) (path : PathParts) (bytes : List ℕ) → IsWalkBack told now path bytes → (IsQueued now.table path bytes → IsBack t before path bytes) → IsWalkBack (t ∷ told) before path bytes
+back_then t told before now path bytes (inl later) one = inl (inl later)
+back_then t told before now path bytes (inr here) one = elim (one here.0) [
+  | inl close ↦ inl (inr (close, here.1))
+  | inr was ↦ inr (was.0, (was.1, here.1))
+]
+
+pub walk_back : (told : List Told) (before end : State) (path : PathParts) (bytes : List ℕ) → IsWithin before.table → Walks before told end → IsQueued end.table path bytes → IsWalkBack told before path bytes
+walk_back [] before end path bytes within walks queued = inr (subst (λ (s : State). IsQueued s.table path bytes) walks queued, tt)
+walk_back (t ∷ told) before end path bytes within (now, answered, inl (none, is)) queued =
+    let last : IsQueued now.table path bytes = subst (λ (s : State). IsQueued s.table path bytes) is queued in
+    back_then t told before now path bytes (subst (λ (l : List Told). IsWalkBack l now path bytes) (sym none) (inr (last, tt)))
+    (λ here. back_one t before now path bytes within answered here)
+walk_back (t ∷ told) before end path bytes within (now, answered, inr walks) queued =
+    let one = keeps_one t before now within answered in
+    back_then t told before now path bytes (walk_back told (counted now) end path bytes one.within walks queued)
+    (λ here. back_one t before now path bytes within answered here)
 
 -- what a line prints begins with no fault
 no_fault : (told : Told) (n : ℕ) → first_byte told.printed ≡ n → (n ≡ 102 → ⊥) → IsFault told → ⊥

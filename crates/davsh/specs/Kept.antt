@@ -1,5 +1,6 @@
 -- What a caller of a run may rely on.
 use Rattle.std.specs.Prelude.{◌≡◌, ◌⊎◌, ℕ, List, [], ◌∷◌, ◌++◌, map, length, codes, Contains, true, false}
+use Rattle.std.specs.List.{All}
 use Rattle.dav_machine.specs.Log.{any_failed}
 use Rattle.dav_edge.specs.Device.{Happened, DeviceLog, Grew, given, taken, is_failure}
 use Rattle.dav_edge.specs.Connections.{Connection, connections_of}
@@ -62,6 +63,20 @@ pub record WasPut (host : List ℕ) (path : PathParts) (bytes : List ℕ) (event
   pub rest : List ℕ
   pub received : Framing Put connection.received (GivesReply reply rest)
   pub success : is_success reply.status ≡ true
+
+-- a beginning of the text was sent on the connection, to the host's port 80
+pub record IsBegun (host text : List ℕ) (connection : Connection) : Type 0 where
+  pub to_host : connection.host ≡ host
+  pub to_port : connection.port ≡ 80
+  pub cut : List ℕ
+  pub sent : connection.sent ++ cut ≡ text
+
+-- a beginning of the request that stores the last closed bytes of a path was sent on the connection
+pub record IsOfClose (host : List ℕ) (told : List Told) (connection : Connection) : Type 0 where
+  pub path : PathParts
+  pub bytes : List ℕ
+  pub close : IsLastClose told path bytes
+  pub begun : IsBegun host (put_text host path bytes) connection
 
 -- the bytes are queued, or lost, or were sent
 abbrev pub IsKept : List ℕ → PathParts → List ℕ → Ended → List Happened → Type 0
@@ -135,3 +150,4 @@ pub record Keeps (words : List (List ℕ)) (source_old source_new out_old out_ne
   pub starved : last.starved ≡ true → end.1.starved ≡ true
   pub kept : (host : List ℕ) → IsBase words host → (path : PathParts) (bytes : List ℕ)
       → IsLastClose told path bytes → IsKept host path bytes end.1 made.up
+  pub sent : (host : List ℕ) → IsBase words host → All (IsOfClose host told) (connections_of made.up)
