@@ -1,0 +1,53 @@
+-- The laws of the machine.
+use Rattle.std.proofs.Common.{◌≡◌, ℕ, List, [], ◌++◌, ap, sym, ◌∙◌, Option, Some, None}
+use Rattle.dav_doc.specs.Document.{Forest, Event, events, Spells}
+use Rattle.dav_doc.specs.Machine.{Begin, Text, Zero, Ran, gives, run}
+use Rattle.dav_doc.proofs.TagSounding.{taken_whole, follows}
+use Rattle.dav_doc.proofs.Runs.{run-append, on_ran}
+use Rattle.dav_doc.proofs.Completing.{complete}
+use Rattle.dav_doc.proofs.Living.{lives}
+use Rattle.std.proofs.Common.{inl, inr}
+use Rattle.std.specs.Prelude.{◌⊎◌}
+use Rattle.dav_doc.specs.Characters.{Whole, owed_by}
+use Rattle.dav_doc.specs.Document.{IsDocument}
+use Rattle.dav_doc.proofs.Reading.{characters_go, characters_taken, characters_bad}
+
+pub sound : (s : List ℕ) (e : List Event) → run s Begin ≡ Some (record { state = Text [] Zero; events = e })
+    → (tree : Forest) × Spells tree s × (e ≡ events 1 tree)
+sound s e h = taken_whole s Zero e h
+
+pub bad : (s : List ℕ) → run s Begin ≡ None → (t : List ℕ) (tree : Forest) → Spells tree (s ++ t) → ⊥
+bad s h t tree is =
+    let e = complete tree (s ++ t) is in
+    let f : run (s ++ t) Begin ≡ None = run-append s t Begin ∙ ap (λ x. on_ran x t) h in
+    cc
+
+pub alive : (s : List ℕ) (r : Ran) → run s Begin ≡ Some r → (t : List ℕ) × (tree : Forest) × Spells tree (s ++ t)
+alive s r h =
+    let l = lives r.state (follows s Begin r tt h).sound in
+    let g : run (s ++ l.text) Begin ≡ Some (record { state = Text [] Zero; events = r.events ++ l.events }) =
+    run-append s l.text Begin ∙ ap (λ x. on_ran x l.text) h ∙ ap (gives r.events) l.goes in
+    let w = sound (s ++ l.text) (r.events ++ l.events) g in
+    (l.text, w.0, w.1)
+
+front_by : (e : List Event) (x : Option Ran) (q : Ran) → gives e x ≡ Some q → (later : List Event) × (q.events ≡ e ++ later)
+front_by e None q h = cc
+front_by e (Some r) q h = let k : record { state = r.state; events = e ++ r.events } ≡ q = cc in (r.events, ap (λ z. z.events) (sym k))
+
+pub so_far : (s t : List ℕ) (r : Ran) (tree : Forest) → run s Begin ≡ Some r → Spells tree (s ++ t)
+    → (later : List Event) × (events 1 tree ≡ r.events ++ later)
+so_far s t r tree h is =
+    front_by r.events (run t r.state) (record { state = Text [] Zero; events = events 1 tree })
+    (sym (run-append s t Begin ∙ ap (λ x. on_ran x t) h) ∙ complete tree (s ++ t) is)
+
+pub whole_sound : (s : List ℕ) (e : List Event) → owed_by s Whole ≡ Some Whole → run s Begin ≡ Some (record { state = Text [] Zero; events = e })
+    → (tree : Forest) × IsDocument tree s × (e ≡ events 1 tree)
+whole_sound s e h g = let k = sound s e g in (k.0, record { spells = k.1; characters = characters_taken s h }, k.2)
+
+pub whole_complete : (tree : Forest) (s : List ℕ) → IsDocument tree s
+    → (owed_by s Whole ≡ Some Whole) × (run s Begin ≡ Some (record { state = Text [] Zero; events = events 1 tree }))
+whole_complete tree s h = (characters_go h.characters, complete tree s h.spells)
+
+pub whole_bad : (s : List ℕ) → (owed_by s Whole ≡ None) ⊎ (run s Begin ≡ None) → (t : List ℕ) (tree : Forest) → IsDocument tree (s ++ t) → ⊥
+whole_bad s (inl h) t tree is = characters_bad s h t is.characters
+whole_bad s (inr h) t tree is = bad s h t tree is.spells

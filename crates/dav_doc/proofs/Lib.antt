@@ -1,0 +1,12 @@
+pub mod Meaning
+pub mod KindFacts
+pub mod Numbers
+pub mod Runs
+pub mod Sounding
+pub mod TagSounding
+pub mod Tokens
+pub mod Marking
+pub mod Completing
+pub mod Living
+pub mod Reading
+pub mod Agreement
