@@ -5,6 +5,7 @@ pub mod Function
 pub mod Kept
 pub mod Line
 pub mod Pending
+pub mod Real
 pub mod Run
 pub mod Said
 pub mod Shell

@@ -1,13 +1,17 @@
-ghost use Rattle.std.specs.Prelude.{◌<◌, ◌≤◌, None, IfOk, length};
+ghost use Rattle.std.specs.Prelude.{◌≡◌, ◌≢◌, ◌<◌, ◌≤◌, [], ◌∷◌, None, IfOk, IsErr, OnOk, OnErr, length};
+ghost use Rattle.std.specs.Io.KnownBytes.{ReadConsumes, WriteAppends};
+ghost use Rattle.dav_edge.specs.Device.{Grew, connected, sent, received, shut_down};
+ghost use Rattle.davsh.specs.Real.{quiet, Stands};
 
 use dav_edge::{Failed, Sink, Source, Wire};
 use std::io;
 use std::io::{ErrorKind, Read, Write};
 use std::net::{Net, TcpStream};
 
-/// Calls again where a signal came in between.
+/// What the reader gives next. It is called again where a signal came in between.
 fn read_some<R: Read>(reader: &mut R, buf: &mut [u8]) -> Result<usize, Failed>
     ensures count { IfOk result (λ n. n ≤ length buf.new) }
+    ensures bytes { ReadConsumes (R.remaining reader.old) (R.remaining reader.new) result buf.new }
 {
     for _ in 0..u64::MAX {
         match reader.read(buf) {
@@ -19,9 +23,11 @@ fn read_some<R: Read>(reader: &mut R, buf: &mut [u8]) -> Result<usize, Failed>
     Err(Failed)
 }
 
+/// What the writer takes of the bytes. It is called again where a signal came in between.
 fn write_some<W: Write>(writer: &mut W, bytes: &[u8]) -> Result<usize, Failed>
     ensures count { IfOk result (λ n. n ≤ length bytes.now) }
     ensures some { IfOk result (λ n. 0 < length bytes.now → 0 < n) }
+    ensures bytes { WriteAppends (W.contents writer.old) (W.contents writer.new) result bytes.now }
 {
     for _ in 0..u64::MAX {
         match writer.write(bytes) {
@@ -48,7 +54,9 @@ pub struct ReaderSource<R> {
 }
 
 impl<R: Read> ReaderSource<R> {
-    pub fn new(reader: R) -> Self {
+    pub fn new(reader: R) -> Self
+        ensures { result ≡ record { reader = reader; left = 18446744073709551615; faults = 0 } }
+    {
         ReaderSource {
             reader,
             left: u64::MAX,
@@ -58,11 +66,16 @@ impl<R: Read> ReaderSource<R> {
 }
 
 impl<R: Read> Source for ReaderSource<R> {
-    ghost log = { λ s. record { told = None; faults = s.faults } };
+    ghost log = { λ s. quiet s.faults };
 
     ghost rest = { λ s. s.left };
 
-    fn take(&mut self, buf: &mut [u8]) -> Result<usize, Failed> {
+    fn take(&mut self, buf: &mut [u8]) -> Result<usize, Failed>
+        ensures log { Grew (quiet self.old.faults) (quiet self.new.faults) (received (length buf.old) buf.new result ∷ []) }
+        ensures count { IfOk result (λ n. n ≤ length buf.new) }
+        ensures rest { IfOk result (λ n. 0 < n → self.new.left < self.old.left) }
+        ensures bytes { 0 < self.old.left → ReadConsumes (R.remaining self.old.reader) (R.remaining self.new.reader) result buf.new }
+    {
         if self.left == 0 {
             return Ok(0);
         }
@@ -87,15 +100,22 @@ pub struct WriterSink<W> {
 }
 
 impl<W: Write> WriterSink<W> {
-    pub fn new(writer: W) -> Self {
+    pub fn new(writer: W) -> Self
+        ensures { result ≡ record { writer = writer; faults = 0 } }
+    {
         WriterSink { writer, faults: 0 }
     }
 }
 
 impl<W: Write> Sink for WriterSink<W> {
-    ghost log = { λ s. record { told = None; faults = s.faults } };
+    ghost log = { λ s. quiet s.faults };
 
-    fn put(&mut self, bytes: &[u8]) -> Result<usize, Failed> {
+    fn put(&mut self, bytes: &[u8]) -> Result<usize, Failed>
+        ensures log { Grew (quiet self.old.faults) (quiet self.new.faults) (sent bytes.now result ∷ []) }
+        ensures count { IfOk result (λ n. n ≤ length bytes.now) }
+        ensures some { IfOk result (λ n. 0 < length bytes.now → 0 < n) }
+        ensures bytes { WriteAppends (W.contents self.old.writer) (W.contents self.new.writer) result bytes.now }
+    {
         match write_some(&mut self.writer, bytes) {
             Ok(count) => Ok(count),
             Err(failed) => {
@@ -116,7 +136,10 @@ pub struct TcpWire<'a, N: Net> {
 }
 
 impl<'a, N: Net> TcpWire<'a, N> {
-    pub fn new(net: &'a N) -> Self {
+    pub fn new(net: &'a N) -> Self
+        ensures none_stands { result.stream ≡ None }
+        ensures faults { result.faults ≡ 0 }
+    {
         TcpWire {
             net,
             stream: None,
@@ -127,11 +150,16 @@ impl<'a, N: Net> TcpWire<'a, N> {
 }
 
 impl<N: Net> Wire for TcpWire<'_, N> {
-    ghost log = { λ w. record { told = None; faults = w.faults } };
+    ghost log = { λ w. quiet w.faults };
 
     ghost rest = { λ w. w.left };
 
-    fn connect(&mut self, host: &str, port: u16) -> Result<(), Failed> {
+    fn connect(&mut self, host: &str, port: u16) -> Result<(), Failed>
+        ensures log { Grew (quiet self.old.faults) (quiet self.new.faults) (connected host.now port result ∷ []) }
+        ensures stands { OnOk result (self.new.stream ≢ None) }
+        ensures none_stands { OnErr result (self.new.stream ≡ None) }
+        ensures left { self.new.left ≡ 18446744073709551615 }
+    {
         self.stream = None;
         self.left = u64::MAX;
         match TcpStream::connect(self.net, (host, port)) {
@@ -146,7 +174,14 @@ impl<N: Net> Wire for TcpWire<'_, N> {
         }
     }
 
-    fn send(&mut self, bytes: &[u8]) -> Result<usize, Failed> {
+    fn send(&mut self, bytes: &[u8]) -> Result<usize, Failed>
+        ensures log { Grew (quiet self.old.faults) (quiet self.new.faults) (sent bytes.now result ∷ []) }
+        ensures count { IfOk result (λ n. n ≤ length bytes.now) }
+        ensures some { IfOk result (λ n. 0 < length bytes.now → 0 < n) }
+        ensures none_stands { self.old.stream ≡ None → IsErr result }
+        ensures bytes { Stands (λ s t. WriteAppends (N.Stream.contents s) (N.Stream.contents t) result bytes.now) self.old.stream self.new.stream }
+        ensures left { self.new.left ≡ self.old.left }
+    {
         let sent = match &mut self.stream {
             Some(stream) => write_some(stream, bytes),
             None => Err(Failed),
@@ -157,11 +192,15 @@ impl<N: Net> Wire for TcpWire<'_, N> {
         sent
     }
 
-    fn receive(&mut self, buf: &mut [u8]) -> Result<usize, Failed> {
-        if self.left == 0 {
-            return Ok(0);
-        }
+    fn receive(&mut self, buf: &mut [u8]) -> Result<usize, Failed>
+        ensures log { Grew (quiet self.old.faults) (quiet self.new.faults) (received (length buf.old) buf.new result ∷ []) }
+        ensures count { IfOk result (λ n. n ≤ length buf.new) }
+        ensures rest { IfOk result (λ n. 0 < n → self.new.left < self.old.left) }
+        ensures none_stands { self.old.stream ≡ None → IsErr result }
+        ensures bytes { 0 < self.old.left → Stands (λ s t. ReadConsumes (N.Stream.remaining s) (N.Stream.remaining t) result buf.new) self.old.stream self.new.stream }
+    {
         let received = match &mut self.stream {
+            Some(_) if self.left == 0 => return Ok(0),
             Some(stream) => read_some(stream, buf),
             None => Err(Failed),
         };
@@ -177,7 +216,10 @@ impl<N: Net> Wire for TcpWire<'_, N> {
         }
     }
 
-    fn shut(&mut self) {
+    fn shut(&mut self)
+        ensures log { Grew (quiet self.old.faults) (quiet self.new.faults) (shut_down ∷ []) }
+        ensures none_stands { self.new.stream ≡ None }
+    {
         self.stream = None;
     }
 }
