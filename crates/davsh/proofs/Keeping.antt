@@ -447,6 +447,17 @@ on_outcome words host bytes failed answers run base does =
           (All-weaker (IsPutOf host below.result.1.table) (IsOfClose host told.told) (of_close host told.told below.result.1 told.walked) (connections_of does.after.made.up) end.puts));
     }
 
+-- behind the shell no line is counted
+pub counted_behind : (host bytes : List ℕ) (failed : Bool) (answers : Answers) (run : EndRun) (does : RunsOn host bytes failed answers run) → run.result.1.done ≡ does.begins.below.result.1.done
+counted_behind host bytes failed answers run does =
+    let below = does.begins.below in
+    let told = shell_told bytes failed [] fresh_state answers.out below does.begins.does in
+    let walk = walk_keeps told.told fresh_state below.result.1 fresh_is_within told.walked in
+    let first : does.before.result ≡ below.result = ap (λ (r : Run Made Answers (Stop × State)). r.result) does.begins.is in
+    let goes : after_shell host below.result.1 below.result.0 does.before.left does.after =
+    subst (λ (r : Stop × State). after_shell host r.1 r.0 does.before.left does.after) first does.goes_on in
+    ap (λ (r : EndRun). r.result.1.done) does.whole ∙ (after_stop host below.result.0 below.result.1 does.before.left does.after walk.within goes).done
+
 outcome : (words : List (List ℕ)) (bytes : List ℕ) (failed : Bool) (answers : Answers) (run : EndRun) → Runs words bytes failed answers run → Outcome words bytes failed run
 outcome words bytes failed answers run (refused none does) = refused_outcome words bytes failed answers run none does
 outcome words bytes failed answers run (on host base does) = on_outcome words host bytes failed answers run base does

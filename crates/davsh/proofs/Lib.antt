@@ -1,3 +1,4 @@
+pub mod Beginning
 pub mod CarryingOut
 pub mod Draining
 pub mod Emptying

@@ -34,7 +34,7 @@ use Rattle.davsh.proofs.Telling.{shell_told}
 use Rattle.davsh.proofs.Keeping.{EndRun, drained_end, says, base_unique}
 
 -- of the same answers the machine makes one run at most with a result of this kind
-abbrev One : {M A R : Type 0} → Machine M A R → (R → Type 0) → Type 0
+abbrev pub One : {M A R : Type 0} → Machine M A R → (R → Type 0) → Type 0
 One {M} {A} {R} m Fed = (answers : A) (r q : Run M A R) → m answers r → m answers q → Fed r.result → Fed q.result → r ≡ q
 
 abbrev AnyResult : {R : Type 0} → R → Type 0
@@ -136,10 +136,10 @@ one_answer before now other line printed text (limit path bytes which put step s
     let b = put_answered before other line text path bytes put two later in (a.0 ∙ sym b.0, a.1 ∙ sym b.1)
 one_answer before now other line printed text (memory said is) two fed later = starved_not before now _ is fed
 
-abbrev LineFed : Bool × State → Type 0
+abbrev pub LineFed : Bool × State → Type 0
 LineFed r = r.1.starved ≡ false
 
-abbrev StopFed : Stop × State → Type 0
+abbrev pub StopFed : Stop × State → Type 0
 StopFed r = r.1.starved ≡ false
 
 abbrev writes_of : State → Bool → Bool × State
@@ -155,7 +155,7 @@ now_fed line st answers r c fed =
     ap (λ (run : Run (List Happened) (List Answer) (Bool × State)). run.result) c.writes.whole ∙ ap (λ (run : Run (List Happened) (List Answer) (Bool × State)). run.result) c.writes.goes_on in
     fed_by c.now c.writes.before.result (sym (ap (λ (x : Bool × State). x.1.starved) result) ∙ fed)
 
-one_carries : (line : List ℕ) (st : State) → One (Carries line st) LineFed
+pub one_carries : (line : List ℕ) (st : State) → One (Carries line st) LineFed
 one_carries line st answers r q c d fr fq =
     let same = one_answer st c.now d.now line c.printed d.printed c.answered d.answered (now_fed line st answers r c fr) (now_fed line st answers q d fq) in
     let here : and_then one_device (Sends d.printed) (λ all. give one_device (writes_of d.now all)) answers r =
@@ -163,7 +163,7 @@ one_carries line st answers r q c d fr fq =
     (subst (λ (p : List ℕ). and_then one_device (Sends p) (λ all. give one_device (writes_of c.now all)) answers r) same.0 c.writes) in
     one_then one_device (Sends d.printed) (λ all. give one_device (writes_of d.now all)) AnyResult LineFed (one_sends d.printed AnyResult) (λ all. one_give one_device (writes_of d.now all) LineFed) (λ all a run does f. tt) answers r q here d.writes fr fq
 
-answer_fed : (before now : State) (line printed : List ℕ) → Answered before line printed now → now.starved ≡ false → before.starved ≡ false
+pub answer_fed : (before now : State) (line printed : List ℕ) → Answered before line printed now → now.starved ≡ false → before.starved ≡ false
 answer_fed before now line printed (nothing empty text is) fed = sym (ap (λ (s : State). s.starved) is) ∙ fed
 answer_fed before now line printed (syntax some none text is) fed = sym (ap (λ (s : State). s.starved) is) ∙ fed
 answer_fed before now line printed (closed path bytes table answer put step text is) fed = sym (ap (λ (s : State). s.starved) is) ∙ fed
@@ -175,7 +175,7 @@ walks_fed [] before end walks fed = sym (ap (λ (s : State). s.starved) walks) �
 walks_fed (t ∷ told) before end (now, answered, inl (none, is)) fed = answer_fed before now t.line t.printed answered (sym (ap (λ (s : State). s.starved) is) ∙ fed)
 walks_fed (t ∷ told) before end (now, answered, inr walks) fed = answer_fed before now t.line t.printed answered (walks_fed told (counted now) end walks fed)
 
-shell_fed : (bytes : List ℕ) (failed : Bool) (begun : List ℕ) (st : State) (answers : List Answer) (r : Run (List Happened) (List Answer) (Stop × State)) → Shell bytes failed begun st answers r → r.result.1.starved ≡ false → st.starved ≡ false
+pub shell_fed : (bytes : List ℕ) (failed : Bool) (begun : List ℕ) (st : State) (answers : List Answer) (r : Run (List Happened) (List Answer) (Stop × State)) → Shell bytes failed begun st answers r → r.result.1.starved ≡ false → st.starved ≡ false
 shell_fed bytes failed begun st answers r does fed =
     let told = shell_told bytes failed begun st answers r does in walks_fed told.told st r.result.1 told.walked fed
 
@@ -183,7 +183,7 @@ one_goes : (next : State → ByteMachine (Stop × State)) → ((s : State) → O
 one_goes next one (true, s) = one s
 one_goes next one (false, s) = one_give one_device (Output, s) StopFed
 
-goes_fed : (next : State → ByteMachine (Stop × State)) → ((s : State) (answers : List Answer) (r : Run (List Happened) (List Answer) (Stop × State)) → next s answers r → StopFed r.result → s.starved ≡ false)
+pub goes_fed : (next : State → ByteMachine (Stop × State)) → ((s : State) (answers : List Answer) (r : Run (List Happened) (List Answer) (Stop × State)) → next s answers r → StopFed r.result → s.starved ≡ false)
     → (x : Bool × State) (answers : List Answer) (r : Run (List Happened) (List Answer) (Stop × State)) → goes_on (next x.1) x.1 x.0 answers r → StopFed r.result → LineFed x
 goes_fed next back (true, s) answers r does fed = back s answers r does fed
 goes_fed next back (false, s) answers r does fed = sym (ap (λ (run : Run (List Happened) (List Answer) (Stop × State)). run.result.1.starved) does) ∙ fed
@@ -194,7 +194,7 @@ one_line : (line : List ℕ) (st : State) (next : State → ByteMachine (Stop ×
 one_line line st next one back =
     one_then one_device (Carries line st) (λ r. goes_on (next r.1) r.1 r.0) LineFed StopFed (one_carries line st) (one_goes next one) (goes_fed next back)
 
-end_fed : (s : State) (answers : List Answer) (r : Run (List Happened) (List Answer) (Stop × State)) → give one_device (End, s) answers r → StopFed r.result → s.starved ≡ false
+pub end_fed : (s : State) (answers : List Answer) (r : Run (List Happened) (List Answer) (Stop × State)) → give one_device (End, s) answers r → StopFed r.result → s.starved ≡ false
 end_fed s answers r does fed = sym (ap (λ (run : Run (List Happened) (List Answer) (Stop × State)). run.result.1.starved) does) ∙ fed
 
 one_end : (failed : Bool) (begun : List ℕ) (st : State) → One (AtEnd failed begun st) StopFed
@@ -411,7 +411,7 @@ unstarved : (b c : Bool) → (b ≡ true → c ≡ true) → c ≡ false → b �
 unstarved true c f fed = let h : true ≡ false = sym (f refl) ∙ fed in absurd (cc)
 unstarved false c f fed = refl
 
-after_shell_fed : (host : List ℕ) (st : State) (stop : Stop) (answers : Answers) (r : EndRun) → after_shell host st stop answers r → EndFed r.result → st.starved ≡ false
+pub after_shell_fed : (host : List ℕ) (st : State) (stop : Stop) (answers : Answers) (r : EndRun) → after_shell host st stop answers r → EndFed r.result → st.starved ≡ false
 after_shell_fed host st Output answers r does fed = sym (ap (λ (run : EndRun). run.result.1.starved) does) ∙ fed
 after_shell_fed host st Input answers r does fed =
     let said = says input_end (λ all. ending status.Input st) answers r does in sym (ap (λ (e : Ending). e.1.starved) said.result) ∙ fed

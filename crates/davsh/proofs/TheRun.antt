@@ -1,11 +1,27 @@
--- A run that no want of memory met is the one run of what it was given.
-use Rattle.std.proofs.Common.{◌≡◌, List, false, refl, subst}
+-- A run that no want of memory met is the one run of what it was given, and every run begins as one that has memory.
+use Rattle.std.proofs.Common.{◌≡◌, ℕ, List, [], ◌∷◌, ◌++◌, map, Bool, false, refl, sym, ◌∙◌, ap, subst, append_assoc}
 use Rattle.dav_machine.specs.Log.{any_failed}
-use Rattle.dav_edge.specs.Device.{DeviceLog, given, is_failure}
-use Rattle.std.proofs.Common.{ℕ}
-use Rattle.davsh.specs.Run.{Made, both, Ending, Runs, Ran}
-use Rattle.davsh.specs.Function.{none_left, whole_run, IsTheRun}
-use Rattle.davsh.proofs.OneRun.{one_run}
+use Rattle.dav_machine.specs.Devices.{answers_before}
+use Rattle.dav_machine.specs.Machine.{Run, run_with}
+use Rattle.dav_edge.specs.Device.{Answer, Happened, DeviceLog, given, taken, is_failure}
+use Rattle.davsh.specs.declared.ended.Status.TheVariants as status
+use Rattle.davsh.specs.declared.stop.Stop.{Stop}
+use Rattle.davsh.specs.Line.{lines_of}
+use Rattle.davsh.specs.Shell.{State, fresh_state, Shell}
+use Rattle.davsh.specs.Words.{IsBase}
+use Rattle.davsh.specs.Kept.{Told, line_of, printed_by}
+use Rattle.davsh.specs.Run.{Made, Answers, answers_of, both, Ending, ending, words_end, RunsOn, Runs, refused, on, Ran}
+use Rattle.davsh.specs.Function.{none_left, whole_run, IsTheRun, Carried, BeginsWith, BeginsFed}
+use Rattle.davsh.proofs.Beginning.{first_counts, shell_front}
+use Rattle.davsh.proofs.Keeping.{EndRun, says, counted_behind}
+use Rattle.davsh.proofs.OneRun.{after_shell_fed, one_run}
+
+-- the run that a `Ran` tells of
+ran_run : (words : List (List ℕ)) (s0 s1 o p u v : DeviceLog) (end : Ending) (ran : Ran words s0 s1 o p u v end)
+    → Runs words (given ran.heard) (any_failed is_failure ran.heard) (both.answered ran.does.made none_left) (whole_run end ran.does.made)
+ran_run words s0 s1 o p u v end ran =
+    subst (λ (m : Made). Runs words (given ran.heard) (any_failed is_failure ran.heard) (both.answered ran.does.made none_left) (whole_run end m)) (both.joined_nothing ran.does.made)
+    (ran.does.same none_left (whole_run end both.nothing) refl)
 
 pub is_the_run : (words : List (List ℕ)) (s0 s1 o p u v : DeviceLog) (end : Ending) → Ran words s0 s1 o p u v end → end.1.starved ≡ false → IsTheRun words s0 s1 o p u v end
 is_the_run words s0 s1 o p u v end ran fed =
@@ -13,13 +29,101 @@ is_the_run words s0 s1 o p u v end ran fed =
     let bytes = given ran.heard in
     let failed = any_failed is_failure ran.heard in
     let answers = both.answered made none_left in
-    let does : Runs words bytes failed answers (whole_run end made) =
-    subst (λ (m : Made). Runs words bytes failed answers (whole_run end m)) (both.joined_nothing made) (ran.does.same none_left (whole_run end both.nothing) refl) in
-    record {
+    let does = ran_run words s0 s1 o p u v end ran in record {
       heard = ran.heard;
       made = made;
       gave = ran.grew;
       grew = ran.does.grew;
       does = does;
       only = λ other runs memory. one_run words bytes failed answers other (whole_run end made) runs does memory fed;
+    }
+
+-- the first lines of a run, up to its first want of memory
+record RunFront (words : List (List ℕ)) (bytes : List ℕ) (failed : Bool) (run : EndRun) : Type 0 where
+  first : List Told
+  rest : List (List ℕ)
+  lines : lines_of bytes ≡ map line_of first ++ rest
+  now : State
+  carried : Carried fresh_state first now
+  fed : now.starved ≡ false
+  done : now.done ≡ run.result.1.done
+  early : List Happened
+  begins : BeginsWith early run.made.out
+  output : taken early ≡ printed_by first
+  only : (answers : Answers) (other : EndRun) → Runs words bytes failed (answers_of (answers_before early answers.out) answers.up) other → other.result.1.starved ≡ false → BeginsWith early other.made.out
+
+only_on : (words : List (List ℕ)) (host bytes : List ℕ) (failed : Bool) (early : List Happened) → IsBase words host
+    → ((answers : List Answer) (q : Run (List Happened) (List Answer) (Stop × State)) → Shell bytes failed [] fresh_state (answers_before early answers) q → q.result.1.starved ≡ false → BeginsWith early q.made)
+    → (answers : Answers) (other : EndRun) → Runs words bytes failed (answers_of (answers_before early answers.out) answers.up) other → other.result.1.starved ≡ false → BeginsWith early other.made.out
+only_on words host bytes failed early base shell answers other (refused none does) fed = absurd (none host base)
+only_on words host bytes failed early base shell answers other (on name too does) fed =
+    let below = does.begins.below in
+    let first : does.before.result ≡ below.result = ap (λ (r : Run Made Answers (Stop × State)). r.result) does.begins.is in
+    let after_fed : does.after.result.1.starved ≡ false = sym (ap (λ (r : EndRun). r.result.1.starved) does.whole) ∙ fed in
+    let before_fed : does.before.result.1.starved ≡ false = after_shell_fed name does.before.result.1 does.before.result.0 does.before.left does.after does.goes_on after_fed in
+    let rest = shell answers.out below does.begins.does (sym (ap (λ (x : Stop × State). x.1.starved) first) ∙ before_fed) in (
+      rest.0 ++ does.after.made.out,
+      ap (λ (r : EndRun). r.made.out) does.whole
+      ∙ ap (λ (r : Run Made Answers (Stop × State)). r.made.out ++ does.after.made.out) does.begins.is
+      ∙ ap (λ (l : List Happened). l ++ does.after.made.out) rest.1
+      ∙ append_assoc early rest.0 does.after.made.out,
+    )
+
+front_on : (words : List (List ℕ)) (host bytes : List ℕ) (failed : Bool) (answers : Answers) (run : EndRun) → IsBase words host → RunsOn host bytes failed answers run → RunFront words bytes failed run
+front_on words host bytes failed answers run base does =
+    let below = does.begins.below in
+    let front = shell_front bytes failed [] fresh_state answers.out below does.begins.does refl in
+    let out : run.made.out ≡ below.made ++ does.after.made.out =
+    ap (λ (r : EndRun). r.made.out) does.whole ∙ ap (λ (r : Run Made Answers (Stop × State)). r.made.out ++ does.after.made.out) does.begins.is in record {
+      first = front.first;
+      rest = front.rest;
+      lines = front.lines_are;
+      now = front.now;
+      carried = front.carried;
+      fed = front.fed;
+      done = front.done ∙ sym (counted_behind host bytes failed answers run does);
+      early = front.early;
+      begins = (
+        front.begins.0 ++ does.after.made.out,
+        out ∙ ap (λ (l : List Happened). l ++ does.after.made.out) front.begins.1 ∙ append_assoc front.early front.begins.0 does.after.made.out,
+      );
+      output = front.output;
+      only = only_on words host bytes failed front.early base front.only;
+    }
+
+run_front : (words : List (List ℕ)) (bytes : List ℕ) (failed : Bool) (answers : Answers) (run : EndRun) → Runs words bytes failed answers run → RunFront words bytes failed run
+run_front words bytes failed answers run (on host base does) = front_on words host bytes failed answers run base does
+run_front words bytes failed answers run (refused none does) =
+    let said = says words_end (λ all. ending status.Words fresh_state) answers run does in record {
+      first = [];
+      rest = lines_of bytes;
+      lines = refl;
+      now = fresh_state;
+      carried = refl;
+      fed = refl;
+      done = sym (ap (λ (e : Ending). e.1.done) said.result);
+      early = [];
+      begins = (run.made.out, refl);
+      output = refl;
+      only = λ answers other runs fed. (other.made.out, refl);
+    }
+
+pub begins_fed : (words : List (List ℕ)) (s0 s1 o p u v : DeviceLog) (end : Ending) → Ran words s0 s1 o p u v end → BeginsFed words s0 s1 o p u v end
+begins_fed words s0 s1 o p u v end ran =
+    let front = run_front words (given ran.heard) (any_failed is_failure ran.heard) (both.answered ran.does.made none_left) (whole_run end ran.does.made) (ran_run words s0 s1 o p u v end ran) in record {
+      heard = ran.heard;
+      made = ran.does.made;
+      gave = ran.grew;
+      grew = ran.does.grew;
+      first = front.first;
+      rest = front.rest;
+      lines = front.lines;
+      count = sym front.done ∙ first_counts front.first front.now front.carried front.fed;
+      now = front.now;
+      carried = front.carried;
+      fed = front.fed;
+      early = front.early;
+      begins = front.begins;
+      output = front.output;
+      only = front.only;
     }

@@ -4,7 +4,7 @@ ghost use Rattle.dav_machine.specs.Machine.{Does};
 ghost use Rattle.davsh.specs.Words.{HasNoBase, texts_of};
 ghost use Rattle.davsh.specs.Said.{state_of};
 ghost use Rattle.davsh.specs.Run.{both, BothGrew, Ran, EndsSink, Starves, Closes, after_shell, ending, left_text};
-ghost use Rattle.davsh.specs.Function.{IsTheRun};
+ghost use Rattle.davsh.specs.Function.{IsTheRun, BeginsFed};
 ghost use Rattle.davsh.specs.Kept.{Keeps};
 ghost use Rattle.davsh.specs.declared.ended.Status.TheVariants as status;
 ghost use Rattle.davsh.specs.declared.stop.Stop.TheVariants as stops;
@@ -154,6 +154,8 @@ pub fn run<S: Source, O: Sink, V: Wire>(
     ensures memory { result.0 ≡ status.Memory → result.1.starved ≡ true }
     ensures function { result.1.starved ≡ false
         → IsTheRun (texts_of words.now) (S.log input.old) (S.log input.new) (O.log out.old) (O.log out.new)
+        (V.log up_wire.old) (V.log up_wire.new) result }
+    ensures beginning { BeginsFed (texts_of words.now) (S.log input.old) (S.log input.new) (O.log out.old) (O.log out.new)
         (V.log up_wire.old) (V.log up_wire.new) result }
 {
     run_all(alloc, words, input, out, up_wire)

@@ -1,6 +1,6 @@
 use Rattle.davsh.specs.Words.{texts_of}
 use Rattle.davsh.proofs.Keeping.{keeps, words_refused, input_rose, output_rose, memory_starves}
-use Rattle.davsh.proofs.TheRun.{is_the_run}
+use Rattle.davsh.proofs.TheRun.{is_the_run, begins_fed}
 use Rattle.davsh.proofs.whole.run.Goals as goal
 
 pub returns-clause-kept : goal.returns-clause-kept
@@ -20,3 +20,6 @@ returns-clause-memory g c = memory_starves (texts_of c.args.words.now) _ _ _ _ _
 
 pub returns-clause-function : goal.returns-clause-function
 returns-clause-function g c = λ memory. is_the_run (texts_of c.args.words.now) _ _ _ _ _ _ c.run_all.result c.run_all.ensures memory
+
+pub returns-clause-beginning : goal.returns-clause-beginning
+returns-clause-beginning g c = begins_fed (texts_of c.args.words.now) _ _ _ _ _ _ c.run_all.result c.run_all.ensures
