@@ -11,7 +11,7 @@ use Rattle.dav_desk.specs.Entries.{Every, Differ, IsAmong, has_path, has_file, p
 use Rattle.dav_desk.specs.Kept.{KeptFile, IsFile, HoldsFile, file_of, lost_file_of, files_of, lost_files_of, file_of_job}
 use Rattle.dav_desk.proofs.Every.{by_test, every_weaker, every_at}
 use Rattle.dav_desk.proofs.Searches.{same_segments_true, segments_from_same}
-use Rattle.dav_desk.proofs.Changes.{every_mark, file_is, file_is_own, file_is_other}
+use Rattle.dav_desk.proofs.Changes.{every_mark, file_is, file_is_not, file_is_own, file_is_other}
 
 path_is : (path : PathParts) (x : Entry) → has_path path x ≡ true → x.path.segments ≡ path.segments
 path_is path x t = segments_from_same x.path.segments path.segments t
@@ -82,6 +82,20 @@ own_mark xs e d m =
     every_mark (λ x. x.file ≡ e.file → (x.path ≡ e.path) × (x.bytes ≡ e.bytes)) e.file xs (λ x p. p)
     (every_weaker (λ x. x.file ≡ e.file → x ≡ e) (λ x. x.file ≡ e.file → (x.path ≡ e.path) × (x.bytes ≡ e.bytes)) xs
     (λ x p f. (ap (λ (y : Entry). y.path) (p f), ap (λ (y : Entry). y.bytes) (p f))) (every_own xs e d m))
+
+-- an entry of the same path is marked, where files and paths differ
+pub path_marked : (xs : List Entry) (e : Entry) → Differ (λ x. x.file) xs → Differ (λ x. x.path.segments) xs → IsAmong e xs → Every (λ x. x.path.segments ≡ e.path.segments → x.taken ≡ true) (mark e.file xs)
+path_marked [] e files paths m = tt
+path_marked (x ∷ xs) e files paths m =
+    by_test (has_file e.file x)
+    (λ t. rw t (λ _. refl, elim m [
+      | inl s ↦ every_weaker (λ y. y.path.segments ≢ x.path.segments) (λ y. y.path.segments ≡ e.path.segments → y.taken ≡ true) xs (λ y n same. absurd (n (same ∙ sym (ap (λ (z : Entry). z.path.segments) s)))) paths.0
+      | inr r ↦ absurd (every_at (λ y. y.file ≢ x.file) xs e files.0 r (sym (file_is e.file x t)))
+    ]))
+    (λ t. rw t (elim m [
+      | inl s ↦ absurd (file_is_not e.file x t (ap (λ (z : Entry). z.file) s))
+      | inr r ↦ (λ same. absurd (every_at (λ y. y.path.segments ≢ x.path.segments) xs e paths.0 r (sym same)), path_marked xs e files.1 paths.1 r)
+    ]))
 
 -- how many entries were not taken yet
 

@@ -15,12 +15,13 @@ use Rattle.dav_desk.specs.declared.fault.DeskFault.{DeskFault}
 use Rattle.dav_desk.specs.declared.fault.DeskFault.TheVariants.{NoSuchJob, Limit, Memory}
 use Rattle.dav_desk.specs.Entries.{Every, entry_of, next_entry, job_of}
 use Rattle.dav_desk.specs.Kept.{KeptFile, IsFile, HoldsFile, files_of, file_of_job}
-use Rattle.dav_desk.specs.Table.{Table, IsWithin, IsFlightWithin, IsQueued, IsLost, IsInFlight, untaken, fresh_table}
+use Rattle.dav_desk.specs.Table.{Table, IsWithin, IsFlightWithin, IsQueued, IsLost, IsInFlight, IsTaken, untaken, fresh_table}
 use Rattle.dav_desk.specs.After.{after, next_job, IsStep}
-use Rattle.dav_desk.proofs.Changes.{every_put, next_among}
+use Rattle.dav_desk.proofs.Changes.{every_put, every_mark, every_without, next_among}
+use Rattle.dav_desk.proofs.Every.{every_at}
 use Rattle.dav_desk.proofs.Within.{within_fresh, within_put, within_mark, within_landed, within_sent, within_lost, lost_as}
 use Rattle.dav_desk.proofs.Cases.{table_taken, table_landed, fate_of, store_case, take_case, settle_case, land_case, refused_stays, settling_goes}
-use Rattle.dav_desk.proofs.Files.{holds_put, holds_put_others, holds_put_back, holds_once, files_mark, among_holds, own_mark, untaken_mark, untaken_without, holds_without, holds_without_back, entry_of_own, lost_push, lost_push_last, best_least, best_none}
+use Rattle.dav_desk.proofs.Files.{holds_put, holds_put_others, holds_put_back, holds_once, files_mark, among_holds, own_mark, path_marked, untaken_mark, untaken_without, holds_without, holds_without_back, entry_of_own, lost_push, lost_push_last, best_least, best_none}
 
 -- A fresh desk.
 
@@ -147,6 +148,26 @@ take_leaves_fewer t u job w h =
     let P : Table → Type 0 = λ (v : Table). untaken v < untaken t in
     subst P s.table (omega arith)
 
+-- the path of a job was taken then, and a path that was taken stays so; no job is of such a path
+pub take_marks_path : (t u : Table) (job : Job) → IsWithin t → after t Take ≡ (u, Ok (Took job)) → IsTaken u job.path
+take_marks_path t u job w h =
+    let s = taking t u job h in
+    let among = next_among t.queued s.entry s.next_is in
+    subst (λ (v : Table). IsTaken v job.path) s.table
+    (subst (λ (j : Job). IsTaken (table_taken t s.entry) j.path) s.job_is (path_marked t.queued s.entry w.files_differ w.paths_differ among.0))
+
+pub take_keeps_taken : (t u : Table) (job : Job) → after t Take ≡ (u, Ok (Took job)) → (p : PathParts) → IsTaken t p → IsTaken u p
+take_keeps_taken t u job h p k =
+    let s = taking t u job h in
+    subst (λ (v : Table). IsTaken v p) s.table (every_mark (λ e. e.path.segments ≡ p.segments → e.taken ≡ true) s.entry.file t.queued (λ e was same. refl) k)
+
+pub take_gives_other : (t u : Table) (job : Job) → after t Take ≡ (u, Ok (Took job)) → (p : PathParts) → IsTaken t p → job.path.segments ≢ p.segments
+take_gives_other t u job h p k same =
+    let s = taking t u job h in
+    let among = next_among t.queued s.entry s.next_is in
+    let here : s.entry.path.segments ≡ p.segments = ap (λ (j : Job). j.path.segments) s.job_is ∙ same in
+    let no : true ≡ false = sym (every_at (λ e. e.path.segments ≡ p.segments → e.taken ≡ true) t.queued s.entry k among.0 here) ∙ among.1 in absurd (cc)
+
 pub take_puts_in_flight : (t u : Table) (job : Job) → IsWithin t → after t Take ≡ (u, Ok (Took job)) → IsInFlight u job
 take_puts_in_flight t u job w h =
     let s = taking t u job h in
@@ -248,6 +269,18 @@ settle_leaves_no_more t number done u a h =
     landed_untaken file Sent (Some x) = untaken_without file t.queued
     landed_untaken file Again (Some x) = omega arith
     landed_untaken file Refused (Some x) = untaken_without file t.queued
+
+pub settle_keeps_taken : (t : Table) (number : ℕ) (done : Done) (u : Table) (a : Answer) → after t (Settle number done) ≡ (u, Ok a) → (p : PathParts) → IsTaken t p → IsTaken u p
+settle_keeps_taken t number done u a h p k =
+    let s = settle_case t number done t.flight u a h in
+    let l = land_case (record t { flight = None }) s.last.file done (entry_of s.last.file t.queued) u a s.landing in
+    subst (λ (v : Table). IsTaken v p) l.table (landed_taken s.last.file done (entry_of s.last.file t.queued))
+  where
+    landed_taken : (file : ℕ) (d : Done) (found : Option Entry) → IsTaken (table_landed (record t { flight = None }) file d found) p
+    landed_taken file d None = k
+    landed_taken file Sent (Some x) = every_without (λ e. e.path.segments ≡ p.segments → e.taken ≡ true) file t.queued k
+    landed_taken file Again (Some x) = k
+    landed_taken file Refused (Some x) = every_without (λ e. e.path.segments ≡ p.segments → e.taken ≡ true) file t.queued k
 
 -- lost files stay
 pub settle_keeps_lost : (t : Table) (number : ℕ) (done : Done) (u : Table) (a : Answer) → after t (Settle number done) ≡ (u, Ok a) → (p : PathParts) (b : List ℕ) → IsLost t p b → IsLost u p b

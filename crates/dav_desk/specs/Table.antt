@@ -48,6 +48,10 @@ IsQueued table path bytes = HoldsFile (files_of table.queued) path bytes
 abbrev pub IsLost : Table → PathParts → List ℕ → Type 0
 IsLost table path bytes = HoldsFile (lost_files_of table.lost) path bytes
 
+-- each queued entry of this path was taken since its store
+abbrev pub IsTaken : Table → PathParts → Type 0
+IsTaken table path = Every (λ e. e.path.segments ≡ path.segments → e.taken ≡ true) table.queued
+
 -- how many queued entries were not taken since their store
 abbrev pub untaken : Table → ℕ
 untaken table = count_by (λ e. not e.taken) table.queued

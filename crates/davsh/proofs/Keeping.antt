@@ -5,9 +5,7 @@ use Rattle.dav_machine.specs.Machine.{Run, run_with, give, and_then}
 use Rattle.dav_machine.specs.Part.{lift}
 use Rattle.dav_machine.proofs.Logs.{any_failed-append}
 use Rattle.dav_edge.specs.Connections.{Connection, connections_of}
-use Rattle.std.specs.List.{All}
 use Rattle.std.proofs.lemmas.List.{length-map}
-use Rattle.std.proofs.lemmas.List.Elements.{All-nil, All-weaker}
 use Rattle.dav_edge.specs.Device.{Happened, DeviceLog, given, is_failure}
 use Rattle.dav_edge.specs.Whole.{Sends}
 use Rattle.dav_edge.proofs.Sending.{sent_so}
@@ -24,9 +22,9 @@ use Rattle.davsh.specs.Words.{IsBase, HasNoBase}
 use Rattle.davsh.specs.Line.{lines_of}
 use Rattle.davsh.specs.Shell.{State, fresh_state}
 use Rattle.davsh.specs.Run.{Made, Answers, answers_of, both, the_sink, BothGrew, Ending, ending, with_table, without_memory, Says, words_end, input_end, memory_end, Starves, closing_status, left_text, Closes, tells, memory, after_drain, after_shell, RunsOn, Runs, refused, on, Ran}
-use Rattle.davsh.specs.Kept.{Told, line_of, Walks, IsLastClose, WasPut, IsKept, FaultsTold, AllRead, printed_by, last_text, Wrote, IsOfClose, AllWritten, Keeps}
+use Rattle.davsh.specs.Kept.{Told, line_of, Walks, IsLastClose, WasPut, IsKept, FaultsTold, AllRead, printed_by, last_text, Wrote, IsOfClose, SentOnce, AllWritten, Keeps}
 use Rattle.davsh.proofs.Telling.{shell_told}
-use Rattle.davsh.proofs.Requests.{IsPutOf, drain_puts}
+use Rattle.davsh.proofs.Requests.{IsPutOf, PutsOnce, puts_none, pairwise_weaker, drain_puts}
 use Rattle.davsh.proofs.Writing.{wrote_sent, wrote_as, wrote_then, wrote_cut}
 use Rattle.davsh.proofs.Walking.{walk_keeps, walk_back, WalkFaults, walk_faults}
 use Rattle.davsh.proofs.Emptying.{put_first, was_put, drained}
@@ -225,7 +223,7 @@ record AfterShell (host : List ℕ) (stop : Stop) (st : State) (run : EndRun) : 
   wrote : (stop ≡ stops.Output → ⊥) → Wrote run.made.out (last_text run.result)
   none : stop ≡ stops.Output → run.made.out ≡ []
   fine : is_closed run.result.0 ≡ true → any_failed is_failure run.made.out ≡ false
-  puts : All (IsPutOf host st.table) (connections_of run.made.up)
+  puts : PutsOnce host st.table (connections_of run.made.up)
 
 stopped : (host : List ℕ) (stop : Stop) (st : State) (s : Status) (run : EndRun) → run.result ≡ ending s st → (s ≡ status.Memory → ⊥) → (s ≡ status.Words → ⊥)
     → (s ≡ status.Input → stop ≡ stops.Input) → (s ≡ status.Output → stop ≡ stops.Output) → (is_read s ≡ true → stop ≡ stops.End) → IsTold s st.faulty
@@ -244,7 +242,7 @@ stopped host stop st s run result not_memory not_words input output read faults 
       wrote = wrote;
       none = none;
       fine = λ h. let x : false ≡ true = sym unclosed ∙ ap is_closed (sym is) ∙ h in absurd (cc);
-      puts = subst (λ (l : List Happened). All (IsPutOf host st.table) (connections_of l)) (sym silent) (All-nil (IsPutOf host st.table));
+      puts = subst (λ (l : List Happened). PutsOnce host st.table (connections_of l)) (sym silent) (puts_none host st.table);
     }
 
 emptied : (host : List ℕ) (st : State) (answers : Answers) (run : EndRun) → IsWithin st.table → after_shell host st stops.End answers run → AfterShell host stops.End st run
@@ -280,9 +278,9 @@ emptied host st answers run within does =
       wrote = λ h. wrote_as does.after.made.out run.made.out (last_text does.after.result) (last_text run.result) (sym out) (sym (ap last_text result)) end.wrote;
       none = λ h. absurd (cc);
       fine = λ h. ap (any_failed is_failure) out ∙ end.fine (sym (ap is_closed status_is) ∙ h);
-      puts = subst (λ (l : List Happened). All (IsPutOf host st.table) (connections_of l))
+      puts = subst (λ (l : List Happened). PutsOnce host st.table (connections_of l))
           (sym (up ∙ ap (λ (l : List Happened). below.made ++ l) end.silent ∙ append-nil below.made))
-          (drain_puts host st.table answers.up below does.begins.does);
+          (drain_puts host st.table answers.up below within does.begins.does);
     }
 
 after_stop : (host : List ℕ) (stop : Stop) (st : State) (answers : Answers) (run : EndRun) → IsWithin st.table → after_shell host st stop answers run → AfterShell host stop st run
@@ -313,7 +311,7 @@ record Outcome (words : List (List ℕ)) (bytes : List ℕ) (failed : Bool) (run
   faults : FaultsTold run.result.0 told
   wrote : Wrote run.made.out (printed_by told ++ last_text run.result)
   fine : is_closed run.result.0 ≡ true → any_failed is_failure run.made.out ≡ false
-  sent : (host : List ℕ) → IsBase words host → All (IsOfClose host told) (connections_of run.made.up)
+  sent : (host : List ℕ) → IsBase words host → SentOnce host told (connections_of run.made.up)
 
 -- a faulty state is one in which a line answered a fault
 faults_told : (s : Status) (told : List Told) (last : State) → WalkFaults told fresh_state last → IsTold s last.faulty → FaultsTold s told
@@ -347,15 +345,22 @@ refused_outcome words bytes failed answers run none does =
       faults = subst (λ (s : Status). FaultsTold s []) (sym is) tt;
       wrote = wrote_as run.made.out run.made.out words_end (last_text run.result) refl (sym (ap last_text said.result)) said.wrote;
       fine = λ h. let x : false ≡ true = sym (ap is_closed is) ∙ h in absurd (cc);
-      sent = λ host base. subst (λ (l : List Happened). All (IsOfClose host []) (connections_of l)) (sym said.silent) (All-nil (IsOfClose host []));
+      sent = λ host base. subst (λ (l : List Happened). SentOnce host [] (connections_of l)) (sym said.silent) (record { paths = []; differ = tt; each = tt });
     }
 
 -- a file that is queued behind the lines was closed last by one of them
-of_close : (host : List ℕ) (told : List Told) (last : State) → Walks fresh_state told last → (c : Connection) → IsPutOf host last.table c → IsOfClose host told c
-of_close host told last walks c put = elim (walk_back told fresh_state last put.path put.bytes fresh_is_within walks put.queued) [
-  | inl close ↦ record { path = put.path; bytes = put.bytes; close = close; begun = put.begun }
-  | inr was ↦ absurd (fresh_queues_nothing put.path put.bytes was.0)
+of_close : (host : List ℕ) (told : List Told) (last : State) → Walks fresh_state told last → (path : PathParts) (c : Connection) → IsPutOf host last.table path c → IsOfClose host told path c
+of_close host told last walks path c put = elim (walk_back told fresh_state last path put.bytes fresh_is_within walks put.queued) [
+  | inl close ↦ record { bytes = put.bytes; close = close; begun = put.begun }
+  | inr was ↦ absurd (fresh_queues_nothing path put.bytes was.0)
 ]
+
+once_of_closes : (host : List ℕ) (told : List Told) (last : State) (connections : List Connection) → Walks fresh_state told last → PutsOnce host last.table connections → SentOnce host told connections
+once_of_closes host told last connections walks puts = record {
+  paths = puts.paths;
+  differ = puts.differ;
+  each = pairwise_weaker (IsPutOf host last.table) (IsOfClose host told) (of_close host told last walks) puts.paths connections puts.each;
+}
 
 -- the lines and what is behind them
 wrote_all : (stop : Stop) (es fs : List Happened) (s t : List ℕ) → ((stop ≡ stops.Output → ⊥) → any_failed is_failure es ≡ false) → (stop ≡ stops.Output → any_failed is_failure es ≡ true)
@@ -442,9 +447,9 @@ on_outcome words host bytes failed answers run base does =
           ∙ any_failed-append is_failure below.made does.after.made.out (told.fine (end_or_output below.result.0 stop))
           ∙ end.fine closed;
       sent = λ other same.
-          subst (λ (h : List ℕ). All (IsOfClose h told.told) (connections_of run.made.up)) (base_unique words host other base same)
-          (subst (λ (l : List Happened). All (IsOfClose host told.told) (connections_of l)) (sym up)
-          (All-weaker (IsPutOf host below.result.1.table) (IsOfClose host told.told) (of_close host told.told below.result.1 told.walked) (connections_of does.after.made.up) end.puts));
+          subst (λ (h : List ℕ). SentOnce h told.told (connections_of run.made.up)) (base_unique words host other base same)
+          (subst (λ (l : List Happened). SentOnce host told.told (connections_of l)) (sym up)
+          (once_of_closes host told.told below.result.1 (connections_of does.after.made.up) told.walked end.puts));
     }
 
 -- behind the shell no line is counted

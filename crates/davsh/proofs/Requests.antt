@@ -1,7 +1,5 @@
--- What the wire of a drain is sent: the requests of files of the queue, each perhaps cut, and nothing else.
-use Rattle.std.proofs.Common.{◌≡◌, ℕ, List, [], ◌∷◌, ◌++◌, Some, None, Ok, Err, Bool, true, false, refl, sym, ◌∙◌, ap, subst, append_assoc, append-nil}
-use Rattle.std.specs.List.{All}
-use Rattle.std.proofs.lemmas.List.Elements.{All-nil, All-cons, All-append, All-weaker}
+-- What the wire of a drain is sent: the requests of files of the queue, each once and perhaps cut, and nothing else.
+use Rattle.std.proofs.Common.{◌≡◌, ◌≢◌, ℕ, List, Option, [], ◌∷◌, ◌++◌, Some, None, Ok, Err, Bool, true, false, refl, sym, ◌∙◌, ap, subst, append_assoc, append-nil}
 use Rattle.dav_machine.specs.Devices.{one_device}
 use Rattle.dav_machine.specs.Machine.{Run, run_with, prepend, give, Follows}
 use Rattle.dav_edge.specs.Device.{Connect, Receive, Fails, Goes, Takes, Gives, Answer, Happened, happened, taken}
@@ -11,15 +9,16 @@ use Rattle.dav_edge.proofs.Connecting.{after_calls-append}
 use Rattle.dav_edge.proofs.Sending.{sent_so, sends_standing}
 use Rattle.dav_text.specs.Path.{PathParts}
 use Rattle.dav_desk.specs.Kept.{KeptFile, HoldsFile}
-use Rattle.dav_desk.specs.Table.{Table, IsQueued}
+use Rattle.dav_desk.specs.Entries.{Every, Differ}
+use Rattle.dav_desk.specs.Table.{Table, IsQueued, IsTaken, IsWithin}
 use Rattle.dav_desk.specs.After.{after}
 use Rattle.dav_desk.specs.declared.answer.Answer.TheVariants.{Took, Settled}
 use Rattle.dav_desk.specs.declared.answer.Job.{Job}
 use Rattle.dav_desk.specs.declared.ask.Ask.TheVariants.{Take}
-use Rattle.dav_desk.proofs.Laws.{take_keeps_files, take_gives_queued, settle_queues_nothing}
+use Rattle.dav_desk.proofs.Laws.{take_is_within, take_keeps_files, take_gives_queued, take_marks_path, take_keeps_taken, take_gives_other, settle_is_within, settle_queues_nothing, settle_keeps_taken}
 use Rattle.davsh.specs.Exchange.{Heard, Judged, whole, broken, short, memory, Hears, hears_if, Talks, Shuts, Exchanges, Uploads, sends, memory as no_memory, put_text}
 use Rattle.davsh.specs.Drain.{Drains, Turn, idle, memory as drain_memory, starved, turn, done_of}
-use Rattle.davsh.specs.Kept.{IsBegun}
+use Rattle.davsh.specs.Kept.{IsBegun, Pairwise}
 use Rattle.davsh.proofs.Putting.{shuts_down}
 
 abbrev HeardRun : Type 0
@@ -27,6 +26,16 @@ HeardRun = Run (List Happened) (List Answer) Heard
 
 abbrev DrainRun : Type 0
 DrainRun = Run (List Happened) (List Answer) (Bool × Table)
+
+-- none or one
+abbrev as_list : Option Connection → List Connection
+as_list None = []
+as_list (Some c) = c ∷ []
+
+-- where there is one, this holds of it
+abbrev OnSome : Option Connection → (Connection → Type 0) → Type 0
+OnSome None P = Unit {0}
+OnSome (Some c) P = P c
 
 receiving-nil : (c : Connection) → receiving [] c ≡ c
 receiving-nil c = ap (λ (l : List ℕ). connection c.host c.port c.sent l) (append-nil c.received)
@@ -107,16 +116,16 @@ talked_by text answers run false does hears =
           ∙ ap (λ (k : Connection). with_standing ended (Some k)) (sym (receiving-nil (sending (taken does.before.made) c)));
     })
 
--- some connections were begun and ended, each to the host, and a beginning of the text was sent on each
+-- one connection to the host was begun and ended, and a beginning of the text was sent on it; or there was none
 record Adds (host text : List ℕ) (events : List Happened) : Type 0 where
-  new : List Connection
-  each : All (IsBegun host text) new
-  adds : (ended : List Connection) → after_calls (with_standing ended None) events ≡ with_standing (ended ++ new) None
+  new : Option Connection
+  begun : OnSome new (IsBegun host text)
+  adds : (ended : List Connection) → after_calls (with_standing ended None) events ≡ with_standing (ended ++ as_list new) None
 
 adds_none : (host text : List ℕ) (events : List Happened) → ((ended : List Connection) → after_calls (with_standing ended None) events ≡ with_standing ended None) → Adds host text events
 adds_none host text events same = record {
-  new = [];
-  each = All-nil (IsBegun host text);
+  new = None;
+  begun = tt;
   adds = λ ended. same ended ∙ ap (λ (l : List Connection). with_standing l None) (sym (append-nil ended));
 }
 
@@ -128,8 +137,8 @@ connected_adds host text answers run rest is does =
     ap (λ (r : HeardRun). r.made) is ∙ ap (λ (r : HeardRun). happened (Connect host 80) Goes ∷ r.made) does.whole in
     let c = connection host 80 talked.sent talked.received in
     subst (Adds host text) (sym made) (record {
-      new = c ∷ [];
-      each = All-cons (IsBegun host text) c [] (record { to_host = refl; to_port = refl; cut = talked.cut; sent = talked.begins }) (All-nil (IsBegun host text));
+      new = Some c;
+      begun = record { to_host = refl; to_port = refl; cut = talked.cut; sent = talked.begins };
       adds = λ ended.
           after_calls-append (with_standing ended (Some (connection host 80 [] []))) does.before.made does.after.made
           ∙ ap (λ (k : Connections). after_calls k does.after.made) (talked.adds ended (connection host 80 [] []))
@@ -150,33 +159,78 @@ upload_adds host path bytes answers run (no_memory want gives) =
     adds_none host (put_text host path bytes) run.made (λ ended. ap (λ (r : HeardRun). after_calls (with_standing ended None) r.made) gives)
 
 -- a beginning of the request of a file of the queue was sent on the connection
-pub record IsPutOf (host : List ℕ) (table : Table) (c : Connection) : Type 0 where
-  pub path : PathParts
+pub record IsPutOf (host : List ℕ) (table : Table) (path : PathParts) (c : Connection) : Type 0 where
   pub bytes : List ℕ
   pub queued : IsQueued table path bytes
   pub begun : IsBegun host (put_text host path bytes) c
 
--- the connections that a drain begins and ends
+pub pairwise_weaker : {X Y : Type 0} (P Q : X → Y → Type 0) → ((x : X) (y : Y) → P x y → Q x y) → (xs : List X) (ys : List Y) → Pairwise P xs ys → Pairwise Q xs ys
+pairwise_weaker P Q f [] [] all = tt
+pairwise_weaker P Q f [] (y ∷ ys) all = absurd all
+pairwise_weaker P Q f (x ∷ xs) [] all = absurd all
+pairwise_weaker P Q f (x ∷ xs) (y ∷ ys) all = (f x y all.0, pairwise_weaker P Q f xs ys all.1)
+
+-- none of the paths is this one
+abbrev NoneIs : PathParts → List PathParts → Type 0
+NoneIs path paths = Every (λ p. p.segments ≢ path.segments) paths
+
+-- The connections that a drain begins and ends, each of a path of its own, which wasn't taken before.
 record DrainAdds (host : List ℕ) (before : Table) (events : List Happened) : Type 0 where
+  paths : List PathParts
   new : List Connection
-  each : All (IsPutOf host before) new
+  each : Pairwise (IsPutOf host before) paths new
+  differ : Differ (λ p. p.segments) paths
+  fresh : (path : PathParts) → IsTaken before path → NoneIs path paths
   adds : (ended : List Connection) → after_calls (with_standing ended None) events ≡ with_standing (ended ++ new) None
 
 drain_none : (host : List ℕ) (before : Table) (run : DrainRun) (went : Bool) (now : Table) (left : List Answer) → run ≡ run_with (went, now) [] left → DrainAdds host before run.made
 drain_none host before run went now left is =
     subst (DrainAdds host before) (sym (ap (λ (r : DrainRun). r.made) is)) (record {
+      paths = [];
       new = [];
-      each = All-nil (IsPutOf host before);
+      each = tt;
+      differ = tt;
+      fresh = λ path was. tt;
       adds = λ ended. ap (λ (l : List Connection). with_standing l None) (sym (append-nil ended));
     })
 
-drain_one : (host : List ℕ) (before taken : Table) (job : Job) (answers : List Answer) (sent : HeardRun) → after before Take ≡ (taken, Ok (Took job)) → Uploads host job.path job.bytes answers sent → DrainAdds host before sent.made
-drain_one host before taken job answers sent takes uploads =
-    let one = upload_adds host job.path job.bytes answers sent uploads in record {
-      new = one.new;
-      each = All-weaker (IsBegun host (put_text host job.path job.bytes)) (IsPutOf host before)
-          (λ c begun. record { path = job.path; bytes = job.bytes; queued = take_gives_queued before taken job takes; begun = begun }) one.new one.each;
-      adds = one.adds;
+put_of : (host : List ℕ) (before taken : Table) (job : Job) (c : Connection) → after before Take ≡ (taken, Ok (Took job)) → IsBegun host (put_text host job.path job.bytes) c → IsPutOf host before job.path c
+put_of host before taken job c takes begun = record { bytes = job.bytes; queued = take_gives_queued before taken job takes; begun = begun }
+
+-- one job, and what comes behind it
+drain_job : (host : List ℕ) (before taken now : Table) (job : Job) (es fs : List Happened) → IsWithin before → after before Take ≡ (taken, Ok (Took job)) → Adds host (put_text host job.path job.bytes) es
+    → DrainAdds host now fs → ((path : PathParts) (bytes : List ℕ) → IsQueued now path bytes → IsQueued before path bytes) → ((path : PathParts) → IsTaken taken path → IsTaken now path)
+    → DrainAdds host before (es ++ fs)
+drain_job host before taken now job es fs within takes one two back stays = by_new one.new one.begun one.adds
+  where
+    later : Pairwise (IsPutOf host before) two.paths two.new
+    later = pairwise_weaker (IsPutOf host now) (IsPutOf host before) (λ p c put. record { bytes = put.bytes; queued = back p put.bytes put.queued; begun = put.begun }) two.paths two.new two.each
+    adds : (new : List Connection) → ((ended : List Connection) → after_calls (with_standing ended None) es ≡ with_standing (ended ++ new) None)
+        → (ended : List Connection) → after_calls (with_standing ended None) (es ++ fs) ≡ with_standing (ended ++ (new ++ two.new)) None
+    adds new first ended =
+        after_calls-append (with_standing ended None) es fs
+        ∙ ap (λ (cs : Connections). after_calls cs fs) (first ended)
+        ∙ two.adds (ended ++ new)
+        ∙ ap (λ (l : List Connection). with_standing l None) (append_assoc ended new two.new)
+    later_fresh : (path : PathParts) → IsTaken before path → NoneIs path two.paths
+    later_fresh path was = two.fresh path (stays path (take_keeps_taken before taken job takes path was))
+    by_new : (new : Option Connection) → OnSome new (IsBegun host (put_text host job.path job.bytes))
+        → ((ended : List Connection) → after_calls (with_standing ended None) es ≡ with_standing (ended ++ as_list new) None) → DrainAdds host before (es ++ fs)
+    by_new None begun first = record {
+      paths = two.paths;
+      new = two.new;
+      each = later;
+      differ = two.differ;
+      fresh = later_fresh;
+      adds = adds [] first;
+    }
+    by_new (Some c) begun first = record {
+      paths = job.path ∷ two.paths;
+      new = c ∷ two.new;
+      each = (put_of host before taken job c takes begun, later);
+      differ = (two.fresh job.path (stays job.path (take_marks_path before taken job within takes)), two.differ);
+      fresh = λ path was. (take_gives_other before taken job takes path was, later_fresh path was);
+      adds = adds (c ∷ []) first;
     }
 
 queued_before : (host : List ℕ) (before now : Table) (answers : List Answer) (sent : HeardRun) (t : Turn host before answers now sent) (path : PathParts) (bytes : List ℕ) → IsQueued now path bytes → IsQueued before path bytes
@@ -184,29 +238,31 @@ queued_before host before now answers sent t path bytes queued =
     subst (λ (files : List KeptFile). HoldsFile files path bytes) (take_keeps_files before t.taken t.job t.takes)
     (settle_queues_nothing t.taken t.job.number (done_of t.came) now (Settled t.fated) t.settles path bytes queued)
 
-drain_then : (host : List ℕ) (before now : Table) (es fs : List Happened) → DrainAdds host before es → DrainAdds host now fs → ((path : PathParts) (bytes : List ℕ) → IsQueued now path bytes → IsQueued before path bytes)
-    → DrainAdds host before (es ++ fs)
-drain_then host before now es fs one two back = record {
-  new = one.new ++ two.new;
-  each = All-append (IsPutOf host before) one.new two.new one.each
-      (All-weaker (IsPutOf host now) (IsPutOf host before) (λ c put. record { path = put.path; bytes = put.bytes; queued = back put.path put.bytes put.queued; begun = put.begun }) two.new two.each);
-  adds = λ ended.
-      after_calls-append (with_standing ended None) es fs
-      ∙ ap (λ (cs : Connections). after_calls cs fs) (one.adds ended)
-      ∙ two.adds (ended ++ one.new)
-      ∙ ap (λ (l : List Connection). with_standing l None) (append_assoc ended one.new two.new);
-}
-
-drain_adds : (host : List ℕ) (before : Table) (answers : List Answer) (run : DrainRun) → Drains host before answers run → DrainAdds host before run.made
-drain_adds host before answers run (idle t a r none gives) = drain_none host t r true t a gives
-drain_adds host before answers run (drain_memory t a r gives) = drain_none host t r false t a gives
-drain_adds host before answers run (starved t a r now sent s is) =
-    subst (DrainAdds host t) (sym (ap (λ (q : DrainRun). q.made) is)) (drain_one host t now s.job a sent s.takes s.uploads)
-drain_adds host before answers run (turn t a r now sent rest one more is) =
+drain_adds : (host : List ℕ) (before : Table) (answers : List Answer) (run : DrainRun) → IsWithin before → Drains host before answers run → DrainAdds host before run.made
+drain_adds host before answers run within (idle t a r none gives) = drain_none host t r true t a gives
+drain_adds host before answers run within (drain_memory t a r gives) = drain_none host t r false t a gives
+drain_adds host before answers run within (starved t a r now sent s is) =
+    let none = drain_none host now (run_with (false, now) [] a) false now a refl in
+    subst (DrainAdds host t) (append-nil sent.made ∙ sym (ap (λ (q : DrainRun). q.made) is))
+    (drain_job host t now now s.job sent.made [] within s.takes (upload_adds host s.job.path s.job.bytes a sent s.uploads) none
+    (λ path bytes queued. subst (λ (files : List KeptFile). HoldsFile files path bytes) (take_keeps_files t now s.job s.takes) queued) (λ path was. was))
+drain_adds host before answers run within (turn t a r now sent rest one more is) =
+    let taken_within = take_is_within t one.taken one.job within one.takes in
+    let now_within = settle_is_within one.taken one.job.number (done_of one.came) now (Settled one.fated) taken_within one.settles in
     subst (DrainAdds host t) (sym (ap (λ (q : DrainRun). q.made) is))
-    (drain_then host t now sent.made rest.made (drain_one host t one.taken one.job a sent one.takes one.uploads) (drain_adds host now sent.left rest more) (queued_before host t now a sent one))
+    (drain_job host t one.taken now one.job sent.made rest.made within one.takes (upload_adds host one.job.path one.job.bytes a sent one.uploads) (drain_adds host now sent.left rest now_within more)
+    (queued_before host t now a sent one) (settle_keeps_taken one.taken one.job.number (done_of one.came) now (Settled one.fated) one.settles))
 
-pub drain_puts : (host : List ℕ) (before : Table) (answers : List Answer) (run : DrainRun) → Drains host before answers run → All (IsPutOf host before) (connections_of run.made)
-drain_puts host before answers run does =
-    let all = drain_adds host before answers run does in
-    subst (All (IsPutOf host before)) (sym (ap all_of (all.adds []))) all.each
+-- each connection is of a queued path of its own
+pub record PutsOnce (host : List ℕ) (table : Table) (connections : List Connection) : Type 0 where
+  pub paths : List PathParts
+  pub differ : Differ (λ p. p.segments) paths
+  pub each : Pairwise (IsPutOf host table) paths connections
+
+pub puts_none : (host : List ℕ) (table : Table) → PutsOnce host table []
+puts_none host table = record { paths = []; differ = tt; each = tt }
+
+pub drain_puts : (host : List ℕ) (before : Table) (answers : List Answer) (run : DrainRun) → IsWithin before → Drains host before answers run → PutsOnce host before (connections_of run.made)
+drain_puts host before answers run within does =
+    let all = drain_adds host before answers run within does in
+    subst (PutsOnce host before) (sym (ap all_of (all.adds []))) (record { paths = all.paths; differ = all.differ; each = all.each })

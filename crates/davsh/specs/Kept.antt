@@ -1,6 +1,5 @@
 -- What a caller of a run may rely on.
 use Rattle.std.specs.Prelude.{◌≡◌, ◌⊎◌, ℕ, List, [], ◌∷◌, ◌++◌, map, length, codes, Contains, true, false}
-use Rattle.std.specs.List.{All}
 use Rattle.dav_machine.specs.Log.{any_failed}
 use Rattle.dav_edge.specs.Device.{Happened, DeviceLog, Grew, given, taken, is_failure}
 use Rattle.dav_edge.specs.Connections.{Connection, connections_of}
@@ -8,6 +7,7 @@ use Rattle.dav_text.specs.declared.method.Method.TheVariants.{Put}
 use Rattle.dav_text.specs.Path.{PathParts}
 use Rattle.dav_frame.specs.declared.reader.Reply.{Reply}
 use Rattle.dav_frame.specs.Framing.{Framing, Gives as GivesReply}
+use Rattle.dav_desk.specs.Entries.{Differ}
 use Rattle.dav_desk.specs.Kept.{HoldsFile}
 use Rattle.davsh.specs.declared.ended.Ended.{Ended}
 use Rattle.davsh.specs.declared.ended.Status.{Status}
@@ -71,12 +71,25 @@ pub record IsBegun (host text : List ℕ) (connection : Connection) : Type 0 whe
   pub cut : List ℕ
   pub sent : connection.sent ++ cut ≡ text
 
--- a beginning of the request that stores the last closed bytes of a path was sent on the connection
-pub record IsOfClose (host : List ℕ) (told : List Told) (connection : Connection) : Type 0 where
-  pub path : PathParts
+-- a beginning of the request that stores the last closed bytes of the path was sent on the connection
+pub record IsOfClose (host : List ℕ) (told : List Told) (path : PathParts) (connection : Connection) : Type 0 where
   pub bytes : List ℕ
   pub close : IsLastClose told path bytes
   pub begun : IsBegun host (put_text host path bytes) connection
+
+-- each of the ones goes with that of the others at its place
+abbrev pub Pairwise : {X Y : Type 0} → (X → Y → Type 0) → List X → List Y → Type 0
+Pairwise P [] [] = Unit {0}
+Pairwise P [] (y ∷ ys) = ⊥
+Pairwise P (x ∷ xs) [] = ⊥
+Pairwise P (x ∷ xs) (y ∷ ys) = P x y × Pairwise P xs ys
+
+-- Each connection is of a path of its own: on it a beginning of the request that stores the path's last closed bytes
+-- was sent, and nothing else. No path is sent twice.
+pub record SentOnce (host : List ℕ) (told : List Told) (connections : List Connection) : Type 0 where
+  pub paths : List PathParts
+  pub differ : Differ (λ p. p.segments) paths
+  pub each : Pairwise (IsOfClose host told) paths connections
 
 -- the bytes are queued, or lost, or were sent
 abbrev pub IsKept : List ℕ → PathParts → List ℕ → Ended → List Happened → Type 0
@@ -150,4 +163,4 @@ pub record Keeps (words : List (List ℕ)) (source_old source_new out_old out_ne
   pub starved : last.starved ≡ true → end.1.starved ≡ true
   pub kept : (host : List ℕ) → IsBase words host → (path : PathParts) (bytes : List ℕ)
       → IsLastClose told path bytes → IsKept host path bytes end.1 made.up
-  pub sent : (host : List ℕ) → IsBase words host → All (IsOfClose host told) (connections_of made.up)
+  pub sent : (host : List ℕ) → IsBase words host → SentOnce host told (connections_of made.up)
