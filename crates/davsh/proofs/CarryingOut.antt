@@ -3,12 +3,12 @@ use Rattle.std.proofs.Common.{◌≡◌, ◌≢◌, ◌<◌, ◌≤◌, ◌+◌,
 use Rattle.std.proofs.lemmas.Bool.{cond-false, ne_eqb}
 use Rattle.std.proofs.lemmas.List.{take-append-drop, take_all, take_more}
 use Rattle.dav_machine.specs.Devices.{one_device}
-use Rattle.dav_machine.specs.Machine.{give, and_then}
+use Rattle.dav_machine.specs.Machine.{run_with, prepend, give, and_then}
 use Rattle.dav_machine.specs.Log.{any_failed}
 use Rattle.dav_machine.proofs.Logs.{any_failed-append, grows_same, grows_then}
 use Rattle.dav_machine.proofs.Reaching.{reaches_next, as_reaches}
 use Rattle.dav_edge.specs.declared.failed.Failed.{Failed}
-use Rattle.dav_edge.specs.Device.{Happened, DeviceLog, ByteMachine, Grew, received, given, bytes_given, is_failure}
+use Rattle.dav_edge.specs.Device.{Happened, happened, Receive, Gives, DeviceLog, ByteMachine, Grew, received, given, bytes_given, is_failure}
 use Rattle.dav_edge.specs.Whole.{ReachesOn, DoesOn, Sends}
 use Rattle.dav_edge.proofs.Sending.{on_same, on_then}
 use Rattle.dav_text.specs.Path.{PathParts}
@@ -19,7 +19,8 @@ use Rattle.davsh.specs.declared.stop.Stop.TheVariants.{End, Input, Output}
 use Rattle.davsh.specs.Line.{without_return, IsPut}
 use Rattle.davsh.specs.Pending.{Holds}
 use Rattle.davsh.specs.Shell.{State, Answered, Carries, AtEnd, Shell, counted, faulted, syntax_line, goes_on}
-use Rattle.davsh.specs.Carrying.{line_at, CarriesOn, ReadsPiece, ReadsAll, EndsOn}
+use Rattle.davsh.specs.Carrying.{line_at, CarriesOn, ReadsPiece, HeardEnd, IsHeard, ReadsAll, EndsOn}
+use Rattle.davsh.proofs.Telling.{shell_told}
 
 -- a line and its answer
 
@@ -202,7 +203,7 @@ all_stopped s0 s1 s2 a b c p q s t u room n buf piece is one grew then_two =
       does = subst (λ (l : List ℕ). DoesOn a c (Shell l (any_failed is_failure heard) [] s) (Output, u))
           (append-nil (given one.heard ++ piece) ∙ ap (λ (l : List ℕ). given one.heard ++ l) is ∙ given_more one.heard room n buf)
           (read [] (any_failed is_failure heard));
-      ended = λ is. let other : Output ≡ End = is in absurd (cc);
+      ended = any_failed-append is_failure one.heard (received room buf (Ok n) ∷ []) one.unfailed;
     }
 
 at_end : (a b c : DeviceLog) (bytes : List ℕ) (p : Pending) (s t u : State) (failed : Bool) (stop : Stop) → ReadsPiece a b bytes [] p s t true
@@ -211,6 +212,18 @@ unfolding Shell
 at_end a b c bytes p s t u failed stop one then_two =
     subst (λ (l : List ℕ). DoesOn a c (Shell l failed [] s) (stop, u)) (append-nil bytes)
     (on_then a b c (Shell (bytes ++ []) failed [] s) (Shell [] failed one.0 t) (give one_device (stop, u)) (one.2 [] failed) (then_two one.0 one.1))
+
+-- where the source did not fail the shell does not stop for it
+end_stops : (bytes : List ℕ) (a c : DeviceLog) (s u : State) (stop : Stop) → DoesOn a c (Shell bytes false [] s) (stop, u) → stop ≢ Input
+end_stops bytes a c s u stop does is =
+    let run = run_with (stop, u) [] [] in
+    let told = shell_told bytes false [] s (one_device.answered does.made []) (prepend one_device does.made run) (does.same [] run refl) in
+    let no : false ≡ true = told.source is in absurd (cc)
+
+heard_by : (stop : Stop) (heard : List Happened) → stop ≢ Input → HeardEnd heard → IsHeard stop heard
+heard_by End heard other ended = ended
+heard_by Input heard other ended = absurd (other refl)
+heard_by Output heard other ended = ap (any_failed is_failure) ended.last ∙ any_failed-append is_failure ended.earlier (happened (Receive ended.room) (Gives []) ∷ []) ended.fine
 
 -- the input came to its end
 pub all_read : (s0 s1 s2 a b c : DeviceLog) (p : Pending) (s t u : State) (room n : ℕ) (buf : List ℕ) (stop : Stop) → 0 < room → n ≡ 0 → ReadsSome s0 s1 a b p s t
@@ -225,12 +238,13 @@ all_read s0 s1 s2 a b c p s t u room n buf stop roomy none one grew then_two =
       does = subst (λ (l : List ℕ). DoesOn a c (Shell l (any_failed is_failure heard) [] s) (stop, u)) bytes
           (subst (λ (f : Bool). DoesOn a c (Shell (given one.heard) f [] s) (stop, u)) (sym unfailed)
           (at_end a b c (given one.heard) p s t u false stop one.reads then_two));
-      ended = λ is. record {
+      ended = heard_by stop heard (end_stops (given one.heard) a c s u stop (at_end a b c (given one.heard) p s t u false stop one.reads then_two)) (record {
         earlier = one.heard;
         room = room;
         some_room = roomy;
+        fine = one.unfailed;
         last = ap (λ (k : ℕ). one.heard ++ received room buf (Ok k) ∷ []) none;
-      };
+      });
     }
 
 -- the source failed
@@ -245,5 +259,5 @@ all_failed s0 s1 s2 a b p s t room buf x one grew =
       does = subst (λ (l : List ℕ). DoesOn a b (Shell l (any_failed is_failure heard) [] s) (Input, t)) (given_failed one.heard room buf x)
           (subst (λ (f : Bool). DoesOn a b (Shell (given one.heard) f [] s) (Input, t)) (sym failed)
           (at_end a b b (given one.heard) p s t t true Input one.reads (λ line holds. on_same b (give one_device (Input, t)))));
-      ended = λ is. let other : Input ≡ End = is in absurd (cc);
+      ended = record { earlier = one.heard; room = room; fine = one.unfailed; last = refl };
     }

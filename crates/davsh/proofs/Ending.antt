@@ -1,11 +1,11 @@
 -- How the parts of a run join.
-use Rattle.std.proofs.Common.{◌≡◌, ℕ, List, [], length, Bool, false, if◌then◌else◌, sym, subst}
+use Rattle.std.proofs.Common.{◌≡◌, ◌≢◌, ℕ, List, [], ◌∷◌, length, Bool, false, if◌then◌else◌, refl, sym, ◌∙◌, ap, subst}
 use Rattle.dav_machine.specs.Log.{any_failed}
 use Rattle.dav_machine.specs.Devices.{one_device}
 use Rattle.dav_machine.specs.Machine.{give, and_then, Reaches, Does}
-use Rattle.dav_machine.proofs.Logs.{grows_same, grows_then}
+use Rattle.dav_machine.proofs.Logs.{any_failed-append, grows_same, grows_then}
 use Rattle.dav_machine.proofs.Reaching.{reaches_then, reaches_next, reaches_same, as_reaches, does_lifted}
-use Rattle.dav_edge.specs.Device.{Happened, DeviceLog, Grew, ByteMachine, given, is_failure}
+use Rattle.dav_edge.specs.Device.{Happened, happened, Receive, Gives, DeviceLog, Grew, ByteMachine, given, is_failure}
 use Rattle.dav_edge.specs.Whole.{DoesOn, Sends}
 use Rattle.dav_desk.specs.Table.{Table}
 use Rattle.davsh.specs.declared.ended.Status.{Status}
@@ -71,17 +71,17 @@ ran_refused words s o p u line all end none text one is = record {
   does = subst (λ (e : Ending). Does both (BothGrew o p u u) (Runs words [] false) e) (sym is)
       (as_reaches both (BothGrew o p u u) (Says words_end (ending status.Words fresh_state)) (give both (ending status.Words fresh_state)) (Runs words [] false) (λ answers run does. refused none does)
       (says o p u words_end all (ending status.Words fresh_state) (subst (λ (l : List ℕ). DoesOn o p (Sends l) all) text one)));
-  ended = subst (λ (e : Ending). EndHeard e.0 []) (sym is) tt;
+  ended = subst (λ (e : Ending). EndHeard e.0 []) (sym is) refl;
 }
 
--- whatever the status, the end was heard
-pub heard_all : (s : Status) (heard : List Happened) → HeardEnd heard → EndHeard s heard
-heard_all status.Done heard ended = ended
-heard_all status.Faults heard ended = ended
-heard_all status.Memory heard ended = ended
-heard_all status.Words heard ended = tt
-heard_all status.Input heard ended = tt
-heard_all status.Output heard ended = tt
+-- the end was heard, and none failed
+pub heard_all : (s : Status) (heard : List Happened) → s ≢ status.Words → s ≢ status.Input → HeardEnd heard → EndHeard s heard
+heard_all status.Done heard words input ended = ended
+heard_all status.Faults heard words input ended = ended
+heard_all status.Memory heard words input ended = ended
+heard_all status.Words heard words input ended = absurd (words refl)
+heard_all status.Input heard words input ended = absurd (input refl)
+heard_all status.Output heard words input ended = ap (any_failed is_failure) ended.last ∙ any_failed-append is_failure ended.earlier (happened (Receive ended.room) (Gives []) ∷ []) ended.fine
 
 -- the shell stopped, and the run came to its end behind it
 pub ran_on : (words : List (List ℕ)) (host : List ℕ) (s t o p q u v : DeviceLog) (before st : State) (stop : Stop) (end : Ending) → IsBase words host → before ≡ fresh_state → (reads : ReadsAll s t o p before st stop)

@@ -1,12 +1,12 @@
 -- A whole run keeps what was closed last, and its status has its cause.
-use Rattle.std.proofs.Common.{◌≡◌, ◌⊎◌, inl, inr, ◌↔◌, ℕ, List, [], ◌∷◌, ◌++◌, map, length, Bool, true, false, not, ◌||◌, if◌then◌else◌, codes, refl, sym, ◌∙◌, ap, subst, append-nil}
+use Rattle.std.proofs.Common.{◌≡◌, ◌≢◌, ◌⊎◌, inl, inr, ◌↔◌, ℕ, List, [], ◌∷◌, ◌++◌, map, length, Bool, true, false, not, ◌||◌, if◌then◌else◌, codes, refl, sym, ◌∙◌, ap, subst, append-nil}
 use Rattle.dav_machine.specs.Log.{any_failed, Rose}
-use Rattle.dav_machine.specs.Machine.{Run, run_with, give, and_then}
+use Rattle.dav_machine.specs.Machine.{Run, run_with, prepend, give, and_then, Does}
 use Rattle.dav_machine.specs.Part.{lift}
 use Rattle.dav_machine.proofs.Logs.{any_failed-append}
 use Rattle.dav_edge.specs.Connections.{Connection, connections_of}
 use Rattle.std.proofs.lemmas.List.{length-map}
-use Rattle.dav_edge.specs.Device.{Happened, DeviceLog, given, is_failure}
+use Rattle.dav_edge.specs.Device.{Receive, Fails, Gives, Happened, happened, DeviceLog, given, is_failure}
 use Rattle.dav_edge.specs.Whole.{Sends}
 use Rattle.dav_edge.proofs.Sending.{sent_so}
 use Rattle.dav_text.specs.Path.{PathParts}
@@ -19,10 +19,11 @@ use Rattle.davsh.specs.declared.ended.Status.TheVariants as status
 use Rattle.davsh.specs.declared.stop.Stop.{Stop}
 use Rattle.davsh.specs.declared.stop.Stop.TheVariants as stops
 use Rattle.davsh.specs.Words.{IsBase, HasNoBase}
+use Rattle.davsh.specs.Carrying.{HeardEnd}
 use Rattle.davsh.specs.Line.{lines_of}
 use Rattle.davsh.specs.Shell.{State, fresh_state}
-use Rattle.davsh.specs.Run.{Made, Answers, answers_of, both, the_sink, BothGrew, Ending, ending, with_table, without_memory, Says, words_end, input_end, memory_end, Starves, closing_status, left_text, Closes, tells, memory, after_drain, after_shell, RunsOn, Runs, refused, on, Ran}
-use Rattle.davsh.specs.Kept.{Told, line_of, Walks, IsLastClose, WasPut, IsKept, FaultsTold, AllRead, printed_by, last_text, Wrote, IsOfClose, SentOnce, AllWritten, Keeps}
+use Rattle.davsh.specs.Run.{Made, Answers, answers_of, both, the_sink, BothGrew, Ending, ending, with_table, without_memory, Says, words_end, input_end, memory_end, Starves, closing_status, left_text, Closes, tells, memory, after_drain, after_shell, RunsOn, Runs, refused, on, EndHeard, Ran}
+use Rattle.davsh.specs.Kept.{Told, line_of, Walks, IsLastClose, WasPut, IsKept, FaultsTold, AllRead, printed_by, last_text, Wrote, IsOfClose, SentOnce, WroteAnswers, IsWritten, Keeps}
 use Rattle.davsh.proofs.Telling.{shell_told}
 use Rattle.davsh.proofs.Requests.{IsPutOf, PutsOnce, puts_none, pairwise_weaker, drain_puts}
 use Rattle.davsh.proofs.Writing.{wrote_sent, wrote_as, wrote_then, wrote_cut}
@@ -209,6 +210,22 @@ pub drained_end : (st : State) (went : Bool) (answers : Answers) (run : EndRun) 
 drained_end st true answers run does = closed_end st answers run does
 drained_end st false answers run does = starved_end st answers run does
 
+-- the run behind the input's end
+finish_end : (o p u v : DeviceLog) (host : List ℕ) (st : State) (end : Ending) (does : Does both (BothGrew o p u v) (after_shell host st stops.End) end)
+    → (end.0 ≡ status.Words → ⊥) × (end.0 ≡ status.Input → ⊥)
+finish_end o p u v host st end does =
+    let run = run_with end both.nothing (answers_of [] []) in
+    let goes : after_shell host st stops.End (both.answered does.made (answers_of [] [])) (prepend both does.made run) = does.same (answers_of [] []) run refl in
+    let last = drained_end (with_table st goes.before.result.1) goes.before.result.0 goes.before.left goes.after goes.goes_on in
+    let is : end.0 ≡ goes.after.result.0 = ap (λ (r : EndRun). r.result.0) goes.whole in
+    (λ h. last.not_words (sym is ∙ h), λ h. last.not_input (sym is ∙ h))
+
+pub finish_not_words : (o p u v : DeviceLog) (host : List ℕ) (st : State) (end : Ending) → Does both (BothGrew o p u v) (after_shell host st stops.End) end → end.0 ≢ status.Words
+finish_not_words o p u v host st end does = (finish_end o p u v host st end does).0
+
+pub finish_not_input : (o p u v : DeviceLog) (host : List ℕ) (st : State) (end : Ending) → Does both (BothGrew o p u v) (after_shell host st stops.End) end → end.0 ≢ status.Input
+finish_not_input o p u v host st end does = (finish_end o p u v host st end does).1
+
 -- the end of the run behind the shell
 record AfterShell (host : List ℕ) (stop : Stop) (st : State) (run : EndRun) : Type 0 where
   kept : (path : PathParts) (bytes : List ℕ) → IsQueued st.table path bytes → IsKept host path bytes run.result.1 run.made.up
@@ -311,6 +328,7 @@ record Outcome (words : List (List ℕ)) (bytes : List ℕ) (failed : Bool) (run
   faults : FaultsTold run.result.0 told
   wrote : Wrote run.made.out (printed_by told ++ last_text run.result)
   fine : is_closed run.result.0 ≡ true → any_failed is_failure run.made.out ≡ false
+  apart : run.result.0 ≢ status.Output → WroteAnswers run.made.out (printed_by told)
   sent : (host : List ℕ) → IsBase words host → SentOnce host told (connections_of run.made.up)
 
 -- a faulty state is one in which a line answered a fault
@@ -345,8 +363,15 @@ refused_outcome words bytes failed answers run none does =
       faults = subst (λ (s : Status). FaultsTold s []) (sym is) tt;
       wrote = wrote_as run.made.out run.made.out words_end (last_text run.result) refl (sym (ap last_text said.result)) said.wrote;
       fine = λ h. let x : false ≡ true = sym (ap is_closed is) ∙ h in absurd (cc);
+      apart = λ other. record { before = []; behind = run.made.out; is = refl; fine = refl; took = refl };
       sent = λ host base. subst (λ (l : List Happened). SentOnce host [] (connections_of l)) (sym said.silent) (record { paths = []; differ = tt; each = tt });
     }
+
+-- where the sink failed while a line was answered, that is the status
+stopped_output : (host : List ℕ) (stop : Stop) (st : State) (answers : Answers) (run : EndRun) → stop ≡ stops.Output → after_shell host st stop answers run → run.result.0 ≡ status.Output
+stopped_output host stops.Output st answers run is does = ap (λ (r : EndRun). r.result.0) does
+stopped_output host stops.Input st answers run is does = absurd (cc)
+stopped_output host stops.End st answers run is does = absurd (cc)
 
 -- a file that is queued behind the lines was closed last by one of them
 of_close : (host : List ℕ) (told : List Told) (last : State) → Walks fresh_state told last → (path : PathParts) (c : Connection) → IsPutOf host last.table path c → IsOfClose host told path c
@@ -446,6 +471,14 @@ on_outcome words host bytes failed answers run base does =
           ap (any_failed is_failure) out
           ∙ any_failed-append is_failure below.made does.after.made.out (told.fine (end_or_output below.result.0 stop))
           ∙ end.fine closed;
+      apart = λ other.
+          let went = told.fine (λ is. other (status_is ∙ stopped_output host below.result.0 below.result.1 does.before.left does.after is goes)) in record {
+            before = below.made;
+            behind = does.after.made.out;
+            is = out;
+            fine = went;
+            took = told.wrote.whole went;
+          };
       sent = λ other same.
           subst (λ (h : List ℕ). SentOnce h told.told (connections_of run.made.up)) (base_unique words host other base same)
           (subst (λ (l : List Happened). SentOnce host told.told (connections_of l)) (sym up)
@@ -475,13 +508,28 @@ all_read status.Words rest all = tt
 all_read status.Input rest all = tt
 all_read status.Output rest all = tt
 
-all_written : (s : Status) (events : List Happened) → (is_closed s ≡ true → any_failed is_failure events ≡ false) → AllWritten s events
-all_written status.Done events fine = fine refl
-all_written status.Faults events fine = fine refl
-all_written status.Words events fine = tt
-all_written status.Input events fine = tt
-all_written status.Output events fine = tt
-all_written status.Memory events fine = tt
+is_written : (s : Status) (events : List Happened) (text : List ℕ) → (is_closed s ≡ true → any_failed is_failure events ≡ false) → (s ≡ status.Output → any_failed is_failure events ≡ true)
+    → (s ≢ status.Output → WroteAnswers events text) → IsWritten s events text
+is_written status.Done events text fine output apart = fine refl
+is_written status.Faults events text fine output apart = fine refl
+is_written status.Words events text fine output apart = apart (λ is. cc)
+is_written status.Input events text fine output apart = apart (λ is. cc)
+is_written status.Output events text fine output apart = output refl
+is_written status.Memory events text fine output apart = apart (λ is. cc)
+
+end_unfailed : (heard : List Happened) → HeardEnd heard → any_failed is_failure heard ≡ true → ⊥
+end_unfailed heard ended failed =
+    let no : false ≡ true = sym (ap (any_failed is_failure) ended.last ∙ any_failed-append is_failure ended.earlier (happened (Receive ended.room) (Gives []) ∷ []) ended.fine) ∙ failed in cc
+
+-- the source failed exactly where that is the status
+source_failed : (s : Status) (heard : List Happened) → EndHeard s heard → (s ≡ status.Input) ↔ (any_failed is_failure heard ≡ true)
+source_failed status.Done heard ended = (λ is. cc, λ failed. absurd (end_unfailed heard ended failed))
+source_failed status.Faults heard ended = (λ is. cc, λ failed. absurd (end_unfailed heard ended failed))
+source_failed status.Memory heard ended = (λ is. cc, λ failed. absurd (end_unfailed heard ended failed))
+source_failed status.Words heard ended = (λ is. cc, λ failed. let no : false ≡ true = sym (ap (any_failed is_failure) ended) ∙ failed in absurd (cc))
+source_failed status.Input heard ended =
+    (λ is. ap (any_failed is_failure) ended.last ∙ any_failed-append is_failure ended.earlier (happened (Receive ended.room) Fails ∷ []) ended.fine, λ failed. refl)
+source_failed status.Output heard ended = (λ is. cc, λ failed. let no : false ≡ true = sym ended ∙ failed in absurd (cc))
 
 -- the whole run that a `Ran` tells of
 whole_of : (words : List (List ℕ)) (s0 s1 o p u v : DeviceLog) (end : Ending) (ran : Ran words s0 s1 o p u v end)
@@ -504,11 +552,12 @@ keeps words s0 s1 o p u v end ran =
       gave = ran.grew;
       grew = grew_whole o p u v ran.does.made ran.does.grew;
       ended = ran.ended;
+      source = source_failed end.0 ran.heard ran.ended;
       lines = all.lines;
       all = all_read end.0 all.rest all.all;
       answered = all.answered;
       wrote = all.wrote;
-      written = all_written end.0 (ran.does.made.out ++ []) all.fine;
+      written = is_written end.0 (ran.does.made.out ++ []) (printed_by all.told) all.fine all.output all.apart;
       faults = all.faults;
       done = all.done;
       starved = all.starved;

@@ -1,5 +1,5 @@
 -- What a caller of a run may rely on.
-use Rattle.std.specs.Prelude.{◌≡◌, ◌⊎◌, ℕ, List, [], ◌∷◌, ◌++◌, map, length, codes, Contains, true, false}
+use Rattle.std.specs.Prelude.{◌≡◌, ◌⊎◌, ◌↔◌, ℕ, List, [], ◌∷◌, ◌++◌, map, length, codes, Contains, true, false}
 use Rattle.dav_machine.specs.Log.{any_failed}
 use Rattle.dav_edge.specs.Device.{Happened, DeviceLog, Grew, given, taken, is_failure}
 use Rattle.dav_edge.specs.Connections.{Connection, connections_of}
@@ -11,7 +11,7 @@ use Rattle.dav_desk.specs.Entries.{Differ}
 use Rattle.dav_desk.specs.Kept.{HoldsFile}
 use Rattle.davsh.specs.declared.ended.Ended.{Ended}
 use Rattle.davsh.specs.declared.ended.Status.{Status}
-use Rattle.davsh.specs.declared.ended.Status.TheVariants.{Done, Faults, Words, Input, Memory}
+use Rattle.davsh.specs.declared.ended.Status.TheVariants.{Done, Faults, Words, Input, Output, Memory}
 use Rattle.davsh.specs.Words.{IsBase}
 use Rattle.davsh.specs.Line.{lines_of, IsPut}
 use Rattle.davsh.specs.Shell.{State, fresh_state, counted, closed_line, Answered}
@@ -129,11 +129,23 @@ pub record Wrote (events : List Happened) (text : List ℕ) : Type 0 where
   pub beginning : taken events ++ cut ≡ text
   pub whole : any_failed is_failure events ≡ false → taken events ≡ text
 
--- at these statuses no call on the sink failed
-abbrev pub AllWritten : Status → List Happened → Type 0
-AllWritten Done events = any_failed is_failure events ≡ false
-AllWritten Faults events = any_failed is_failure events ≡ false
-AllWritten _ events = Unit {0}
+-- no call on the sink failed until it had taken the whole text
+pub record WroteAnswers (events : List Happened) (text : List ℕ) : Type 0 where
+  pub before : List Happened
+  pub behind : List Happened
+  pub is : events ≡ before ++ behind
+  pub fine : any_failed is_failure before ≡ false
+  pub took : taken before ≡ text
+
+-- How the sink went, by the status: it failed where that is the status, while an answer or what is left was written.
+-- At Done and Faults no call on it failed, and at the others none before the last line.
+abbrev pub IsWritten : Status → List Happened → List ℕ → Type 0
+IsWritten Done events answers = any_failed is_failure events ≡ false
+IsWritten Faults events answers = any_failed is_failure events ≡ false
+IsWritten Words events answers = WroteAnswers events answers
+IsWritten Input events answers = WroteAnswers events answers
+IsWritten Memory events answers = WroteAnswers events answers
+IsWritten Output events answers = any_failed is_failure events ≡ true
 
 -- at these statuses every line of the input was carried out
 abbrev pub AllRead : Status → List (List ℕ) → Type 0
@@ -153,11 +165,12 @@ pub record Keeps (words : List (List ℕ)) (source_old source_new out_old out_ne
   pub gave : Grew source_old source_new heard
   pub grew : BothGrew out_old out_new up_old up_new made
   pub ended : EndHeard end.0 heard
+  pub source : (end.0 ≡ Input) ↔ (any_failed is_failure heard ≡ true)
   pub lines : lines_of (given heard) ≡ map line_of told ++ rest
   pub all : AllRead end.0 rest
   pub answered : Walks fresh_state told last
   pub wrote : Wrote made.out (printed_by told ++ last_text end)
-  pub written : AllWritten end.0 made.out
+  pub written : IsWritten end.0 made.out (printed_by told)
   pub faults : FaultsTold end.0 told
   pub done : last.done ≡ end.1.done
   pub starved : last.starved ≡ true → end.1.starved ≡ true

@@ -1,5 +1,5 @@
 -- A whole run of the program, from its words, the input and the answers of the sink and the wire.
-use Rattle.std.specs.Prelude.{ℕ, zero, List, [], ◌++◌, length, codes, decimal, Bool, true, false, if◌then◌else◌, refl}
+use Rattle.std.specs.Prelude.{◌≡◌, ℕ, zero, List, [], ◌++◌, length, codes, decimal, Bool, true, false, if◌then◌else◌, refl}
 use Rattle.std.proofs.Common.{append_assoc, append-nil, ap, ◌∙◌}
 use Rattle.dav_machine.specs.Log.{any_failed}
 use Rattle.dav_machine.specs.Devices.{Devices, one_device, answers_before, answers_before-append}
@@ -15,7 +15,7 @@ use Rattle.davsh.specs.declared.ended.Status.TheVariants as status
 use Rattle.davsh.specs.declared.stop.Stop.{Stop}
 use Rattle.davsh.specs.declared.stop.Stop.TheVariants.{End, Input, Output}
 use Rattle.davsh.specs.Words.{IsBase, HasNoBase}
-use Rattle.davsh.specs.Carrying.{HeardEnd}
+use Rattle.davsh.specs.Carrying.{HeardEnd, HeardFailure}
 use Rattle.davsh.specs.Shell.{State, state, fresh_state, Shell}
 use Rattle.davsh.specs.Drain.{Drains}
 
@@ -148,12 +148,15 @@ pub data Runs (words : List (List ℕ)) (bytes : List ℕ) (failed : Bool) (answ
 abbrev pub EndsSink : DeviceLog → DeviceLog → RunMachine → Ending → Type 0
 EndsSink old new machine end = (up : DeviceLog) → Does both (BothGrew old new up up) machine end
 
--- at these statuses the source said that its end was there
+-- How the source went, by the status: it failed in the last call where that is the status, and only there. It said
+-- that its end was there where the input was read to its end. Where the words were refused it wasn't called.
 abbrev pub EndHeard : Status → List Happened → Type 0
 EndHeard status.Done heard = HeardEnd heard
 EndHeard status.Faults heard = HeardEnd heard
 EndHeard status.Memory heard = HeardEnd heard
-EndHeard _ heard = Unit {0}
+EndHeard status.Words heard = heard ≡ []
+EndHeard status.Input heard = HeardFailure heard
+EndHeard status.Output heard = any_failed is_failure heard ≡ false
 
 -- What the source gave, and a run over it.
 pub record Ran (words : List (List ℕ)) (source_old source_new out_old out_new up_old up_new : DeviceLog) (end : Ending) : Type 0 where
