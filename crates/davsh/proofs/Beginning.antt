@@ -147,9 +147,9 @@ line_only line before next answers first now early carries result enough back la
     let rest = later left e.after goes_now fed_after in (
       rest.0,
       ap (λ (r : ShellRun). r.made) e.whole
-      ∙ ap (λ (r : LineRun). r.made ++ e.after.made) same
-      ∙ ap (λ (l : List Happened). first.made ++ l) rest.1
-      ∙ sym (append_assoc first.made early rest.0),
+          ∙ ap (λ (r : LineRun). r.made ++ e.after.made) same
+          ∙ ap (λ (l : List Happened). first.made ++ l) rest.1
+          ∙ sym (append_assoc first.made early rest.0),
     )
 
 front_by : (line : List ℕ) (lines : List (List ℕ)) (before : State) (next : State → ByteMachine (Stop × State)) (answers : List Answer) (first : LineRun) (after run : ShellRun) (c : Carries line before answers first)
@@ -230,7 +230,7 @@ shell_front (b ∷ bytes) failed begun st answers run does fed =
     by_byte (b == 10) (without_return begun ∷ lines_from bytes []) (lines_from bytes (begun ++ b ∷ []))
     (then_next (without_return begun) st (λ s. Shell bytes failed [] s)) (Shell bytes failed (begun ++ b ∷ []) st) st answers run does
     (λ ends. line_front (without_return begun) (lines_from bytes []) st (λ s. Shell bytes failed [] s) answers run ends fed
-      (λ s. shell_fed bytes failed [] s) (λ s. shell_counts bytes failed [] s) (λ s left r goes enough. shell_front bytes failed [] s left r goes enough))
+    (λ s. shell_fed bytes failed [] s) (λ s. shell_counts bytes failed [] s) (λ s left r goes enough. shell_front bytes failed [] s left r goes enough))
     (λ more. shell_front bytes failed (begun ++ b ∷ []) st answers run more fed)
 
 -- how many lines are counted
@@ -256,6 +256,7 @@ carried_counts (t ∷ told) before end (now, answered, carried) fed few =
   where
     at_most : (n done most : ℕ) → n ≡ min (done + 1) most → n ≤ most
     at_most n done most is = omega arith
+
     more : (done len most : ℕ) → min (min (done + 1) most + len) most ≡ min (done + suc len) most
     more done len most = omega arith
 

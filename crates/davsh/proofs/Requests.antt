@@ -205,6 +205,7 @@ drain_job host before taken now job es fs within takes one two back stays = by_n
   where
     later : Pairwise (IsPutOf host before) two.paths two.new
     later = pairwise_weaker (IsPutOf host now) (IsPutOf host before) (λ p c put. record { bytes = put.bytes; queued = back p put.bytes put.queued; begun = put.begun }) two.paths two.new two.each
+
     adds : (new : List Connection) → ((ended : List Connection) → after_calls (with_standing ended None) es ≡ with_standing (ended ++ new) None)
         → (ended : List Connection) → after_calls (with_standing ended None) (es ++ fs) ≡ with_standing (ended ++ (new ++ two.new)) None
     adds new first ended =
@@ -212,8 +213,10 @@ drain_job host before taken now job es fs within takes one two back stays = by_n
         ∙ ap (λ (cs : Connections). after_calls cs fs) (first ended)
         ∙ two.adds (ended ++ new)
         ∙ ap (λ (l : List Connection). with_standing l None) (append_assoc ended new two.new)
+
     later_fresh : (path : PathParts) → IsTaken before path → NoneIs path two.paths
     later_fresh path was = two.fresh path (stays path (take_keeps_taken before taken job takes path was))
+
     by_new : (new : Option Connection) → OnSome new (IsBegun host (put_text host job.path job.bytes))
         → ((ended : List Connection) → after_calls (with_standing ended None) es ≡ with_standing (ended ++ as_list new) None) → DrainAdds host before (es ++ fs)
     by_new None begun first = record {

@@ -64,9 +64,9 @@ only_on words host bytes failed early base shell answers other (on name too does
     let rest = shell answers.out below does.begins.does (sym (ap (λ (x : Stop × State). x.1.starved) first) ∙ before_fed) in (
       rest.0 ++ does.after.made.out,
       ap (λ (r : EndRun). r.made.out) does.whole
-      ∙ ap (λ (r : Run Made Answers (Stop × State)). r.made.out ++ does.after.made.out) does.begins.is
-      ∙ ap (λ (l : List Happened). l ++ does.after.made.out) rest.1
-      ∙ append_assoc early rest.0 does.after.made.out,
+          ∙ ap (λ (r : Run Made Answers (Stop × State)). r.made.out ++ does.after.made.out) does.begins.is
+          ∙ ap (λ (l : List Happened). l ++ does.after.made.out) rest.1
+          ∙ append_assoc early rest.0 does.after.made.out,
     )
 
 front_on : (words : List (List ℕ)) (host bytes : List ℕ) (failed : Bool) (answers : Answers) (run : EndRun) → IsBase words host → RunsOn host bytes failed answers run → RunFront words bytes failed run

@@ -39,9 +39,9 @@ abbrev pub BeginsWith : List Happened → List Happened → Type 0
 BeginsWith early made = (more : List Happened) × (made ≡ early ++ more)
 
 -- A run goes on without want of memory up to the end of the lines that it counts. These are the first lines of the
--- input; each was carried out with memory, the calls on the sink begin with those that write their answers whole, and
--- no call on the wire comes before. Every run of the same words and input in which the sink answers these calls in
--- the same way, and that has memory throughout, begins with them too.
+-- input; each was carried out with memory, and the calls on the sink begin with those that write their answers whole.
+-- Every run of the same words and input in which the sink answers these calls in the same way, and that has memory
+-- throughout, begins with them too.
 pub record BeginsFed (words : List (List ℕ)) (source_old source_new out_old out_new up_old up_new : DeviceLog) (end : Ending) : Type 0 where
   pub heard : List Happened
   pub made : Made

@@ -6,8 +6,12 @@ mod ended;
 mod exchange;
 mod input;
 mod line;
+#[cfg(test)]
+mod model_tests;
 mod pending;
 mod real;
+#[cfg(test)]
+mod real_tests;
 mod shell;
 mod stop;
 #[cfg(test)]

@@ -160,7 +160,7 @@ impl<N: Net> Wire for TcpWire<'_, N> {
         ensures none_stands { OnErr result (self.new.stream ≡ None) }
         ensures left { self.new.left ≡ 18446744073709551615 }
     {
-        self.stream = None;
+        self.shut();
         self.left = u64::MAX;
         match TcpStream::connect(self.net, (host, port)) {
             Ok(stream) => {

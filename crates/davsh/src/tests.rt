@@ -6,28 +6,28 @@ use std::test::Fail;
 
 /// What a run came to.
 #[derive(Drop)]
-struct Outcome {
-    status: Status,
-    ended: Ended,
-    out: Vec<u8>,
-    up: Vec<MemConnection>,
+pub struct Outcome {
+    pub status: Status,
+    pub ended: Ended,
+    pub out: Vec<u8>,
+    pub up: Vec<MemConnection>,
 }
 
 /// The program on one line of input, with a stream for each connection.
 #[derive(Clone, Copy)]
-struct Script<'a> {
-    word: &'a str,
-    input: &'a [u8],
-    streams: &'a [&'a [u8]],
-    input_fails: &'a [u64],
-    out_fails: &'a [u64],
-    up_fails: &'a [u64],
-    most: usize,
+pub struct Script<'a> {
+    pub word: &'a str,
+    pub input: &'a [u8],
+    pub streams: &'a [&'a [u8]],
+    pub input_fails: &'a [u64],
+    pub out_fails: &'a [u64],
+    pub up_fails: &'a [u64],
+    pub most: usize,
 }
 
 const CREATED: &[u8] = b"HTTP/1.1 201 Created\r\nETag: \"1\"\r\nContent-Length: 0\r\n\r\n";
 
-fn on_input<'a>(input: &'a [u8], streams: &'a [&'a [u8]]) -> Script<'a> {
+pub fn on_input<'a>(input: &'a [u8], streams: &'a [&'a [u8]]) -> Script<'a> {
     Script {
         word: "http://h/",
         input,
@@ -39,7 +39,7 @@ fn on_input<'a>(input: &'a [u8], streams: &'a [&'a [u8]]) -> Script<'a> {
     }
 }
 
-fn outcome_of(alloc: Global, script: &Script<'_>) -> Result<Outcome, AllocError> {
+pub fn outcome_of(alloc: Global, script: &Script<'_>) -> Result<Outcome, AllocError> {
     let mut words = Vec::new(alloc);
     words.push(String::from_str(alloc, script.word)?)?;
     let mut streams = Vec::new(alloc);

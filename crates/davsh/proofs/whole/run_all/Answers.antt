@@ -30,6 +30,6 @@ pub returns-in-End : goal.returns-in-End
 returns-in-End g c =
     ran_on (texts_of c.args.words.now) c.in-Some.host.now _ _ _ _ _ _ _ (state_of c.new-shell.result) (state_of c.read_lines.new.shell) End _ c.in-Some.ensures c.new-shell.ensures c.in-End.ensures c.finish.ensures
     (heard_all _ c.in-End.ensures.heard
-      (finish_not_words _ _ _ _ c.in-Some.host.now (state_of c.read_lines.new.shell) _ c.finish.ensures)
-      (finish_not_input _ _ _ _ c.in-Some.host.now (state_of c.read_lines.new.shell) _ c.finish.ensures)
-      c.in-End.ensures.ended)
+    (finish_not_words _ _ _ _ c.in-Some.host.now (state_of c.read_lines.new.shell) _ c.finish.ensures)
+    (finish_not_input _ _ _ _ c.in-Some.host.now (state_of c.read_lines.new.shell) _ c.finish.ensures)
+    c.in-End.ensures.ended)
