@@ -1,13 +1,13 @@
 -- A run begins as every run of the same input and the same first answers that has memory throughout.
-use Rattle.std.proofs.Common.{◌≡◌, ◌≤◌, ◌+◌, inl, inr, ℕ, suc, List, [], ◌∷◌, ◌++◌, map, length, drop, Bool, true, false, not, MatchBool, if◌then◌else◌, ◌==◌, min, refl, sym, ◌∙◌, ap, subst, append-nil, append_assoc, arith, lit≤}
+use Rattle.std.proofs.Common.{◌≡◌, ◌≤◌, ◌+◌, inl, inr, ℕ, suc, List, [], ◌∷◌, ◌++◌, map, length, drop, Bool, true, false, MatchBool, if◌then◌else◌, ◌==◌, min, refl, sym, ◌∙◌, ap, subst, append-nil, append_assoc, arith, lit≤}
 use Rattle.dav_machine.specs.Devices.{one_device, answers_before, answers_before-append}
-use Rattle.dav_machine.specs.Machine.{Run, run_with, prepend, give, Calls, Follows, and_then}
+use Rattle.dav_machine.specs.Machine.{Run, run_with, prepend, give, and_then}
 use Rattle.dav_edge.specs.Device.{Send, Fails, Goes, Takes, Gives, Answer, Happened, happened, ByteMachine, taken}
 use Rattle.dav_edge.specs.Whole.{Sends}
 use Rattle.dav_edge.proofs.Sending.{sent_so}
 use Rattle.dav_edge.proofs.Taking.{taken-append}
 use Rattle.davsh.specs.declared.stop.Stop.{Stop}
-use Rattle.davsh.specs.declared.stop.Stop.TheVariants.{End, Input, Output}
+use Rattle.davsh.specs.declared.stop.Stop.TheVariants.{End, Input}
 use Rattle.davsh.specs.Line.{without_return, lines_from}
 use Rattle.davsh.specs.Shell.{State, fresh_state, counted, Answered, nothing, syntax, closed, limit, memory, Carries, goes_on, AtEnd, Shell}
 use Rattle.davsh.specs.Kept.{Told, line_of, Walks, printed_by}

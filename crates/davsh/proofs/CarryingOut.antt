@@ -3,12 +3,12 @@ use Rattle.std.proofs.Common.{◌≡◌, ◌≢◌, ◌<◌, ◌≤◌, ◌+◌,
 use Rattle.std.proofs.lemmas.Bool.{cond-false, ne_eqb}
 use Rattle.std.proofs.lemmas.List.{take-append-drop, take_all, take_more}
 use Rattle.dav_machine.specs.Devices.{one_device}
-use Rattle.dav_machine.specs.Machine.{run_with, prepend, give, and_then}
+use Rattle.dav_machine.specs.Machine.{Run, run_with, prepend, give, and_then}
 use Rattle.dav_machine.specs.Log.{any_failed}
 use Rattle.dav_machine.proofs.Logs.{any_failed-append, grows_same, grows_then}
 use Rattle.dav_machine.proofs.Reaching.{reaches_next, as_reaches}
 use Rattle.dav_edge.specs.declared.failed.Failed.{Failed}
-use Rattle.dav_edge.specs.Device.{Happened, happened, Receive, Gives, DeviceLog, ByteMachine, Grew, received, given, bytes_given, is_failure}
+use Rattle.dav_edge.specs.Device.{Answer, Happened, happened, Receive, Gives, DeviceLog, ByteMachine, Grew, received, given, bytes_given, is_failure}
 use Rattle.dav_edge.specs.Whole.{ReachesOn, DoesOn, Sends}
 use Rattle.dav_edge.proofs.Sending.{on_same, on_then}
 use Rattle.dav_text.specs.Path.{PathParts}
@@ -16,11 +16,11 @@ use Rattle.dav_text.proofs.PathLemmas.{IsEarlyPath-from_path_of}
 use Rattle.davsh.specs.declared.pending.Pending.{Pending}
 use Rattle.davsh.specs.declared.stop.Stop.{Stop}
 use Rattle.davsh.specs.declared.stop.Stop.TheVariants.{End, Input, Output}
-use Rattle.davsh.specs.Line.{without_return, IsPut}
+use Rattle.davsh.specs.Line.{without_return, lines_from, IsPut}
 use Rattle.davsh.specs.Pending.{Holds}
 use Rattle.davsh.specs.Shell.{State, Answered, Carries, AtEnd, Shell, counted, faulted, syntax_line, goes_on}
 use Rattle.davsh.specs.Carrying.{line_at, CarriesOn, ReadsPiece, HeardEnd, IsHeard, ReadsAll, EndsOn}
-use Rattle.davsh.proofs.Telling.{shell_told}
+use Rattle.davsh.proofs.Telling.{Tells, shell_told}
 
 -- a line and its answer
 
@@ -216,8 +216,8 @@ at_end a b c bytes p s t u failed stop one then_two =
 -- where the source did not fail the shell does not stop for it
 end_stops : (bytes : List ℕ) (a c : DeviceLog) (s u : State) (stop : Stop) → DoesOn a c (Shell bytes false [] s) (stop, u) → stop ≢ Input
 end_stops bytes a c s u stop does is =
-    let run = run_with (stop, u) [] [] in
-    let told = shell_told bytes false [] s (one_device.answered does.made []) (prepend one_device does.made run) (does.same [] run refl) in
+    let run : Run (List Happened) (List Answer) (Stop × State) = run_with (stop, u) [] [] in
+    let told : Tells (lines_from bytes []) false s (prepend one_device does.made run) = shell_told bytes false [] s (one_device.answered does.made []) (prepend one_device does.made run) (does.same [] run refl) in
     let no : false ≡ true = told.source is in absurd (cc)
 
 heard_by : (stop : Stop) (heard : List Happened) → stop ≢ Input → HeardEnd heard → IsHeard stop heard

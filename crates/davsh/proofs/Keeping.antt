@@ -23,7 +23,7 @@ use Rattle.davsh.specs.Carrying.{HeardEnd}
 use Rattle.davsh.specs.Line.{lines_of}
 use Rattle.davsh.specs.Shell.{State, fresh_state}
 use Rattle.davsh.specs.Run.{Made, Answers, answers_of, both, the_sink, BothGrew, Ending, ending, with_table, without_memory, Says, words_end, input_end, memory_end, Starves, closing_status, left_text, Closes, tells, memory, after_drain, after_shell, RunsOn, Runs, refused, on, EndHeard, Ran}
-use Rattle.davsh.specs.Kept.{Told, line_of, Walks, IsLastClose, WasPut, IsKept, FaultsTold, AllRead, printed_by, last_text, Wrote, IsOfClose, SentOnce, WroteAnswers, IsWritten, Keeps}
+use Rattle.davsh.specs.Kept.{Told, line_of, Walks, IsLastClose, WasPut, IsKept, FaultsTold, AllRead, printed_by, last_text, Wrote, IsOfClose, SentOnce, WroteAnswers, IsWritten, NothingSent, Keeps}
 use Rattle.davsh.proofs.Telling.{shell_told}
 use Rattle.davsh.proofs.Requests.{IsPutOf, PutsOnce, puts_none, pairwise_weaker, drain_puts}
 use Rattle.davsh.proofs.Writing.{wrote_sent, wrote_as, wrote_then, wrote_cut}
@@ -240,6 +240,7 @@ record AfterShell (host : List ℕ) (stop : Stop) (st : State) (run : EndRun) : 
   wrote : (stop ≡ stops.Output → ⊥) → Wrote run.made.out (last_text run.result)
   none : stop ≡ stops.Output → run.made.out ≡ []
   fine : is_closed run.result.0 ≡ true → any_failed is_failure run.made.out ≡ false
+  still : run.result.0 ≡ status.Input → run.made.up ≡ []
   puts : PutsOnce host st.table (connections_of run.made.up)
 
 stopped : (host : List ℕ) (stop : Stop) (st : State) (s : Status) (run : EndRun) → run.result ≡ ending s st → (s ≡ status.Memory → ⊥) → (s ≡ status.Words → ⊥)
@@ -259,6 +260,7 @@ stopped host stop st s run result not_memory not_words input output read faults 
       wrote = wrote;
       none = none;
       fine = λ h. let x : false ≡ true = sym unclosed ∙ ap is_closed (sym is) ∙ h in absurd (cc);
+      still = λ h. silent;
       puts = subst (λ (l : List Happened). PutsOnce host st.table (connections_of l)) (sym silent) (puts_none host st.table);
     }
 
@@ -295,6 +297,7 @@ emptied host st answers run within does =
       wrote = λ h. wrote_as does.after.made.out run.made.out (last_text does.after.result) (last_text run.result) (sym out) (sym (ap last_text result)) end.wrote;
       none = λ h. absurd (cc);
       fine = λ h. ap (any_failed is_failure) out ∙ end.fine (sym (ap is_closed status_is) ∙ h);
+      still = λ h. absurd (end.not_input (sym status_is ∙ h));
       puts = subst (λ (l : List Happened). PutsOnce host st.table (connections_of l))
           (sym (up ∙ ap (λ (l : List Happened). below.made ++ l) end.silent ∙ append-nil below.made))
           (drain_puts host st.table answers.up below within does.begins.does);
@@ -329,6 +332,7 @@ record Outcome (words : List (List ℕ)) (bytes : List ℕ) (failed : Bool) (run
   wrote : Wrote run.made.out (printed_by told ++ last_text run.result)
   fine : is_closed run.result.0 ≡ true → any_failed is_failure run.made.out ≡ false
   apart : run.result.0 ≢ status.Output → WroteAnswers run.made.out (printed_by told)
+  still : (run.result.0 ≡ status.Words) ⊎ (run.result.0 ≡ status.Input) → run.made.up ≡ []
   sent : (host : List ℕ) → IsBase words host → SentOnce host told (connections_of run.made.up)
 
 -- a faulty state is one in which a line answered a fault
@@ -364,6 +368,7 @@ refused_outcome words bytes failed answers run none does =
       wrote = wrote_as run.made.out run.made.out words_end (last_text run.result) refl (sym (ap last_text said.result)) said.wrote;
       fine = λ h. let x : false ≡ true = sym (ap is_closed is) ∙ h in absurd (cc);
       apart = λ other. record { before = []; behind = run.made.out; is = refl; fine = refl; took = refl };
+      still = λ h. said.silent;
       sent = λ host base. subst (λ (l : List Happened). SentOnce host [] (connections_of l)) (sym said.silent) (record { paths = []; differ = tt; each = tt });
     }
 
@@ -479,6 +484,10 @@ on_outcome words host bytes failed answers run base does =
             fine = went;
             took = told.wrote.whole went;
           };
+      still = λ h. elim h [
+        | inl bad_words ↦ absurd (end.not_words (sym status_is ∙ bad_words))
+        | inr bad_source ↦ up ∙ end.still (sym status_is ∙ bad_source)
+      ];
       sent = λ other same.
           subst (λ (h : List ℕ). SentOnce h told.told (connections_of run.made.up)) (base_unique words host other base same)
           (subst (λ (l : List Happened). SentOnce host told.told (connections_of l)) (sym up)
@@ -516,6 +525,14 @@ is_written status.Words events text fine output apart = apart (λ is. cc)
 is_written status.Input events text fine output apart = apart (λ is. cc)
 is_written status.Output events text fine output apart = output refl
 is_written status.Memory events text fine output apart = apart (λ is. cc)
+
+nothing_sent : (s : Status) (events : List Happened) → ((s ≡ status.Words) ⊎ (s ≡ status.Input) → events ≡ []) → NothingSent s events
+nothing_sent status.Done events still = tt
+nothing_sent status.Faults events still = tt
+nothing_sent status.Words events still = still (inl refl)
+nothing_sent status.Input events still = still (inr refl)
+nothing_sent status.Output events still = tt
+nothing_sent status.Memory events still = tt
 
 end_unfailed : (heard : List Happened) → HeardEnd heard → any_failed is_failure heard ≡ true → ⊥
 end_unfailed heard ended failed =
@@ -562,6 +579,7 @@ keeps words s0 s1 o p u v end ran =
       done = all.done;
       starved = all.starved;
       kept = all.kept;
+      undrained = nothing_sent end.0 (ran.does.made.up ++ []) all.still;
       sent = all.sent;
     }
 

@@ -1,8 +1,8 @@
 -- A run that no want of memory met is the one run of what it was given, and every run begins as one that has memory.
-use Rattle.std.proofs.Common.{◌≡◌, ℕ, List, [], ◌∷◌, ◌++◌, map, Bool, false, refl, sym, ◌∙◌, ap, subst, append_assoc}
+use Rattle.std.proofs.Common.{◌≡◌, ℕ, List, [], ◌++◌, map, Bool, false, refl, sym, ◌∙◌, ap, subst, append_assoc}
 use Rattle.dav_machine.specs.Log.{any_failed}
 use Rattle.dav_machine.specs.Devices.{answers_before}
-use Rattle.dav_machine.specs.Machine.{Run, run_with}
+use Rattle.dav_machine.specs.Machine.{Run}
 use Rattle.dav_edge.specs.Device.{Answer, Happened, DeviceLog, given, taken, is_failure}
 use Rattle.davsh.specs.declared.ended.Status.TheVariants as status
 use Rattle.davsh.specs.declared.stop.Stop.{Stop}

@@ -32,9 +32,9 @@ put_text host path bytes = request_text (put_request host path bytes)
 abbrev pub Heard : Type 0
 Heard = Result (Option ℕ) Memory
 
--- a fault is no reply, or was want of memory
+-- a fault is no reply, or is want of memory
 abbrev pub IsHeardOf : FrameFault → Heard → Type 0
-IsHeardOf fault heard = ((want : Memory) × (heard ≡ Err want)) ⊎ ((fault ≢ faults.Memory) × (heard ≡ Ok None))
+IsHeardOf fault heard = ((want : Memory) × (heard ≡ Err want) × (fault ≡ faults.Memory)) ⊎ ((fault ≢ faults.Memory) × (heard ≡ Ok None))
 
 -- What is done after a piece that isn't the last of the connection, by what the bytes so far are: a whole
 -- reply, no beginning of one, or the beginning of one, behind which the reading goes on.

@@ -147,6 +147,12 @@ IsWritten Input events answers = WroteAnswers events answers
 IsWritten Memory events answers = WroteAnswers events answers
 IsWritten Output events answers = any_failed is_failure events ≡ true
 
+-- at these statuses no connection was made
+abbrev pub NothingSent : Status → List Happened → Type 0
+NothingSent Words events = events ≡ []
+NothingSent Input events = events ≡ []
+NothingSent _ events = Unit {0}
+
 -- at these statuses every line of the input was carried out
 abbrev pub AllRead : Status → List (List ℕ) → Type 0
 AllRead Done rest = rest ≡ []
@@ -176,4 +182,5 @@ pub record Keeps (words : List (List ℕ)) (source_old source_new out_old out_ne
   pub starved : last.starved ≡ true → end.1.starved ≡ true
   pub kept : (host : List ℕ) → IsBase words host → (path : PathParts) (bytes : List ℕ)
       → IsLastClose told path bytes → IsKept host path bytes end.1 made.up
+  pub undrained : NothingSent end.0 made.up
   pub sent : (host : List ℕ) → IsBase words host → SentOnce host told (connections_of made.up)

@@ -3,7 +3,7 @@ use Rattle.davsh.specs.Words.{texts_of}
 use Rattle.davsh.specs.declared.stop.Stop.TheVariants.{End, Input, Output}
 use Rattle.davsh.proofs.Keeping.{finish_not_words, finish_not_input}
 use Rattle.davsh.proofs.Ending.{ran_refused, ran_on, ends_output, ends_input, heard_all}
-use Rattle.std.proofs.Common.{◌∙◌, ap, subst, sym, refl}
+use Rattle.std.proofs.Common.{◌∙◌, ap, subst, sym}
 use Rattle.davsh.specs.declared.ended.Status.TheVariants as status
 use Rattle.davsh.specs.Shell.{State}
 use Rattle.davsh.specs.Run.{Ending, ending, EndHeard}
