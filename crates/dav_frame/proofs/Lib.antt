@@ -1,9 +1,10 @@
-pub mod FeedLemmas
-pub mod KeepLemmas
-pub mod BodyLemmas
+pub mod FrontLemmas
 pub mod HeadLemmas
+pub mod BodyLemmas
+pub mod ChunkLemmas
 pub mod OutcomeLemmas
 pub mod PlaceLemmas
+pub mod ChunkPlace
 pub mod ReadingLemmas
 pub mod FieldLemmas
 pub mod PutLemmas

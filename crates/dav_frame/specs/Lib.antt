@@ -1,6 +1,4 @@
-pub mod Limit
-pub mod Head
-pub mod Lengths
+pub mod Front
 pub mod Framing
 pub mod Reading
 pub mod Fields

@@ -1,6 +1,3 @@
-/// The most bytes that a reply's body may have.
-pub const BODY_LIMIT: usize = 8_388_608;
-
 /// Why a stream gives no reply.
 #[derive(Clone, Copy, Debug, PartialEq, Eq)]
 pub enum FrameFault {
@@ -8,13 +5,17 @@ pub enum FrameFault {
     NotAReply { at: u64 },
     /// The stream ended inside the reply, after so many bytes of it.
     Cut { got: u64 },
-    /// The head passes 65,536 bytes, or goes on after its 130th line feed.
+    /// A Content-Length that is no number of 1 to 15 digits, or two that differ.
+    BadLength,
+    /// No continuation makes a chunk, or trailers, of the bytes that begin at this offset.
+    BadChunk { at: u64 },
+    /// A transfer coding other than `chunked` alone, or a content coding other than `identity`.
+    Coding,
+    /// The heads and trailers pass 65,536 bytes together, or one head, or the trailers, go on after
+    /// their 130th line feed.
     HeadLimit,
-    /// The stated length is above `BODY_LIMIT`.
+    /// The body is longer than `BODY_LIMIT`.
     BodyLimit,
-    /// A whole head of a form that is not read yet: its status is below 200, 204 or 304, it has a
-    /// transfer or content coding, or it does not state one length.
-    Early,
     /// Want of memory.
     Memory,
 }

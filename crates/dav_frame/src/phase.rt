@@ -1,38 +1,83 @@
-ghost use Rattle.std.specs.Prelude.{◌≡◌, ℕ, ◌+◌, ◌<◌, ◌≤◌, ◌==◌, ◌&&◌, ◌↔◌, ◌⊎◌, length, drop, IsTrue};
-ghost use Rattle.httparse.specs.Grammar.{ResponseHead};
-ghost use Rattle.httparse.specs.Spans.{IsResponseAt, IsResponseWithin};
-ghost use Rattle.dav_frame.specs.Reading.{Leads, IsSound, IsReading, Begins, Counts, bytes_read};
-ghost use Rattle.dav_frame.specs.Framing.{body_length as body_length_lem};
-ghost use Rattle.dav_frame.specs.Lengths.{is_early_status as is_early_status_lem, stated_length as stated_length_lem};
+ghost use Rattle.std.specs.Prelude.{◌≡◌, ℕ, ◌<◌, ◌≤◌, ◌⊎◌, ◌↔◌, ◌==◌, List, length, take, drop, IsTrue};
+ghost use Rattle.dav_frame.specs.Framing.{Outcome};
+ghost use Rattle.dav_frame.specs.Reading.{FromPhase, Leads, IsSound, IsReading, IsWhole, Waits, Counts, bytes_read, is_alone};
 
-use crate::fault::{BODY_LIMIT, FrameFault};
-use crate::head::{Judged, judge};
-use crate::lengths::length_in;
-use crate::limit::keep;
+use crate::body::{in_body, to_end};
+use crate::chunk::{after_data, in_data, in_line, in_trailers};
+use crate::fault::FrameFault;
+use crate::head::in_head;
 use dav_text::Method;
-use httparse::spans::{EMPTY_HEADER_SPAN, HeaderSpan, ResponseSpans};
+use http_header::HeaderMap;
 use std::alloc::Global;
+
+/// What is kept of a final head.
+#[derive(Drop)]
+pub struct FinalHead {
+    pub(crate) status: u16,
+    pub(crate) fields: HeaderMap,
+    /// The connection may serve another request, as far as the head says.
+    pub(crate) persists: bool,
+}
+
+/// A chunked body: the bytes of all heads, the offset at which the chunk or the trailers begin, and the
+/// data so far.
+#[derive(Drop)]
+pub struct Chunks {
+    pub(crate) head: FinalHead,
+    pub(crate) before: usize,
+    pub(crate) at: usize,
+    pub(crate) body: Vec<u8>,
+}
 
 /// Where the reader stands in a reply.
 #[derive(Drop)]
 pub enum Phase {
-    /// In the head, of which these bytes have come.
+    /// In a head, after interim heads of `before` bytes.
     AtHead {
         method: Method,
+        before: usize,
         kept: Vec<u8>,
     },
-    /// In the body, after a head of `head` bytes: `need` bytes more are to come.
+    /// In a body of a stated length, after heads of `at` bytes: `need` bytes more are to come.
     InBody {
-        status: u16,
-        head: usize,
+        head: FinalHead,
+        at: usize,
         body: Vec<u8>,
         need: usize,
     },
-    /// After the last byte of the reply.
-    Whole {
-        status: u16,
-        head: usize,
+    /// In a body that ends with the connection, after heads of `at` bytes.
+    ToEnd {
+        head: FinalHead,
+        at: usize,
         body: Vec<u8>,
+    },
+    /// In the size line of a chunk.
+    AtLine {
+        chunks: Chunks,
+        kept: Vec<u8>,
+    },
+    /// In the data of a chunk, after `got` bytes of the reply: `need` bytes more are to come.
+    InData {
+        chunks: Chunks,
+        got: usize,
+        need: u64,
+    },
+    /// In the CR LF behind the data of a chunk, after `got` bytes of the reply.
+    AfterData {
+        chunks: Chunks,
+        got: usize,
+        has_cr: bool,
+    },
+    /// In the trailers.
+    AtTrailers {
+        chunks: Chunks,
+        kept: Vec<u8>,
+    },
+    /// After the last byte of the reply. `alone` where the piece in which it ended held no byte more.
+    Whole {
+        head: FinalHead,
+        body: Vec<u8>,
+        alone: bool,
     },
     /// After a fault.
     Failed(FrameFault),
@@ -45,156 +90,12 @@ pub(crate) struct Step {
     pub(crate) used: usize,
 }
 
-fn failed(fault: FrameFault, used: usize) -> Step
+pub(crate) fn failed(fault: FrameFault, used: usize) -> Step
     ensures { result ≡ record { phase = Phase.Failed fault; used = used } }
 {
     Step {
         phase: Phase::Failed(fault),
         used,
-    }
-}
-
-/// Takes a piece in a body.
-fn in_body(status: u16, head: usize, mut body: Vec<u8>, need: usize, piece: &[u8]) -> Step
-    requires { IsSound (Phase.InBody status head body need) }
-    ensures used { result.used ≤ length piece.now }
-    ensures moves { 0 < length piece.now → 0 < result.used }
-    ensures sound { IsSound result.phase }
-    ensures counts { Counts (head + length body.items) result.used result.phase }
-    ensures leads { Leads (Phase.InBody status head body need) piece.now result.phase
-        (drop result.used piece.now) }
-{
-    if piece.len() < need {
-        if body.extend_from_slice(piece).is_err() {
-            return failed(FrameFault::Memory, piece.len());
-        }
-        return Step {
-            phase: Phase::InBody {
-                status,
-                head,
-                body,
-                need: need - piece.len(),
-            },
-            used: piece.len(),
-        };
-    }
-    if body.extend_from_slice(&piece[..need]).is_err() {
-        return failed(FrameFault::Memory, piece.len());
-    }
-    Step {
-        phase: Phase::Whole { status, head, body },
-        used: need,
-    }
-}
-
-/// Whether a reply of this status is not the last, or has no body.
-fn is_early_status(status: u16) -> bool
-    ensures { result ≡ is_early_status_lem status }
-{
-    status < 200 || status == 204 || status == 304
-}
-
-/// How long the body is, where the head states a length: a reply to HEAD has none.
-fn body_length(method: Method, stated: usize) -> usize
-    ensures { result ≡ body_length_lem method stated }
-{
-    match method {
-        Method::Head => 0,
-        _ => stated,
-    }
-}
-
-/// The length that a head states for its body, or None where the body has another form.
-fn stated_length(kept: &[u8], headers: &[HeaderSpan], spans: ResponseSpans) -> Option<usize>
-    requires { IsResponseWithin kept.now headers.now spans }
-    ensures { (h : ResponseHead) → IsResponseAt kept.now headers.now spans h → result ≡ stated_length_lem h }
-{
-    if is_early_status(spans.code) {
-        return None;
-    }
-    length_in(kept, &headers[..spans.headers])
-}
-
-/// The phase after a whole head, which is past the limit or not.
-fn after_head(
-    alloc: Global,
-    method: Method,
-    kept: &[u8],
-    headers: &[HeaderSpan],
-    spans: ResponseSpans,
-    past: bool,
-) -> Phase
-    requires within { IsResponseWithin kept.now headers.now spans }
-    requires size { length kept.now ≤ 65537 }
-    ensures sound { IsSound result }
-    ensures counts { Counts spans.len 0 result }
-    ensures begins { (h : ResponseHead) → IsResponseAt kept.now headers.now spans h
-        → Begins method h past result }
-{
-    let stated = match stated_length(kept, headers, spans) {
-        Some(stated) => stated,
-        None => return Phase::Failed(FrameFault::Early),
-    };
-    if past {
-        return Phase::Failed(FrameFault::HeadLimit);
-    }
-    let need = body_length(method, stated);
-    if need > BODY_LIMIT {
-        return Phase::Failed(FrameFault::BodyLimit);
-    }
-    let body = Vec::new(alloc);
-    let (status, head) = (spans.code, spans.len);
-    if need == 0 {
-        return Phase::Whole { status, head, body };
-    }
-    Phase::InBody {
-        status,
-        head,
-        body,
-        need,
-    }
-}
-
-/// Whether the last byte of a head is the first past the limit.
-fn ends_past(past: bool, len: usize, kept: usize) -> bool
-    ensures { result ≡ (past && (len == kept)) }
-{
-    past && len == kept
-}
-
-/// Takes a piece in a head.
-fn in_head(alloc: Global, method: Method, mut kept: Vec<u8>, piece: &[u8]) -> Step
-    requires { IsSound (Phase.AtHead method kept) }
-    ensures used { result.used ≤ length piece.now }
-    ensures moves { 0 < length piece.now → 0 < result.used }
-    ensures sound { IsSound result.phase }
-    ensures counts { Counts (length kept.items) result.used result.phase }
-    ensures leads { Leads (Phase.AtHead method kept) piece.now result.phase
-        (drop result.used piece.now) }
-{
-    let before = kept.len();
-    let Ok(past) = keep(&mut kept, piece) else {
-        return failed(FrameFault::Memory, piece.len());
-    };
-    let mut headers = [EMPTY_HEADER_SPAN; 132];
-    match judge(&kept, &mut headers) {
-        Judged::Refused => failed(FrameFault::NotAReply { at: 0 }, piece.len()),
-        Judged::Open => {
-            if past {
-                return failed(FrameFault::HeadLimit, piece.len());
-            }
-            Step {
-                phase: Phase::AtHead { method, kept },
-                used: piece.len(),
-            }
-        }
-        Judged::Whole(spans) => {
-            let ends = ends_past(past, spans.len, kept.len());
-            Step {
-                phase: after_head(alloc, method, &kept, &headers, spans, ends),
-                used: spans.len - before,
-            }
-        }
     }
 }
 
@@ -205,12 +106,29 @@ fn is_reading(phase: &Phase) -> bool
     match phase {
         Phase::AtHead { .. } => true,
         Phase::InBody { .. } => true,
+        Phase::ToEnd { .. } => true,
+        Phase::AtLine { .. } => true,
+        Phase::InData { .. } => true,
+        Phase::AfterData { .. } => true,
+        Phase::AtTrailers { .. } => true,
         Phase::Whole { .. } => false,
         Phase::Failed(_) => false,
     }
 }
 
-/// Takes a piece in a phase that waits for more.
+/// The bytes up to the first line feed, or all: so that no body is taken for a part of a head.
+fn first_line(piece: &[u8]) -> &[u8]
+    ensures front { result.now ≡ take (length result.now) piece.now }
+    ensures inside { length result.now ≤ length piece.now }
+    ensures some { 0 < length piece.now → 0 < length result.now }
+{
+    match piece.iter().position(|byte| *byte == b'\n') {
+        Some(at) => &piece[..at + 1],
+        None => piece,
+    }
+}
+
+/// Takes a piece, or its first line, in a phase that waits for more.
 fn take_piece(alloc: Global, phase: Phase, piece: &[u8]) -> Step
     requires sound { IsSound phase }
     requires reading { IsReading phase }
@@ -221,16 +139,44 @@ fn take_piece(alloc: Global, phase: Phase, piece: &[u8]) -> Step
     ensures counts { Counts (bytes_read phase) result.used result.phase }
     ensures leads { Leads phase piece.now result.phase (drop result.used piece.now) }
 {
+    let line = first_line(piece);
     match phase {
-        Phase::AtHead { method, kept } => in_head(alloc, method, kept, piece),
+        Phase::AtHead {
+            method,
+            before,
+            kept,
+        } => in_head(alloc, method, before, kept, line),
         Phase::InBody {
-            status,
             head,
+            at,
             body,
             need,
-        } => in_body(status, head, body, need, piece),
+        } => in_body(head, at, body, need, piece),
+        Phase::ToEnd { head, at, body } => to_end(head, at, body, piece),
+        Phase::AtLine { chunks, kept } => in_line(alloc, chunks, kept, line),
+        Phase::InData { chunks, got, need } => in_data(chunks, got, need, piece),
+        Phase::AfterData {
+            chunks,
+            got,
+            has_cr,
+        } => after_data(alloc, chunks, got, has_cr, piece),
+        Phase::AtTrailers { chunks, kept } => in_trailers(chunks, kept, line),
         Phase::Whole { .. } => unreachable!(),
         Phase::Failed(_) => unreachable!(),
+    }
+}
+
+/// The phase with the note whether the piece held no byte behind the reply, where it is whole.
+fn noted(phase: Phase, alone: bool) -> Phase
+    ensures sound { IsSound phase → IsSound result }
+    ensures reading { IsReading phase ↔ IsReading result }
+    ensures alone { IsWhole result → is_alone result ≡ alone }
+    ensures counts { (before used : ℕ) → Counts before used phase → Counts before used result }
+    ensures leads { (rest : List ℕ) (outcome : Outcome) → FromPhase result rest outcome → FromPhase phase rest outcome }
+{
+    match phase {
+        Phase::Whole { head, body, .. } => Phase::Whole { head, body, alone },
+        _ => phase,
     }
 }
 
@@ -242,7 +188,10 @@ pub(crate) fn take_all(alloc: Global, phase: Phase, piece: &[u8]) -> Step
     ensures all { IsReading result.phase → result.used ≡ length piece.now }
     ensures counts { Counts (bytes_read phase) result.used result.phase }
     ensures leads { Leads phase piece.now result.phase (drop result.used piece.now) }
+    ensures waits { IsReading result.phase → Waits result.phase }
     ensures failed { IsReading phase ⊎ (result.phase ≡ phase) }
+    ensures alone { IsReading phase → IsWhole result.phase
+        → is_alone result.phase ≡ (result.used == length piece.now) }
 {
     if !is_reading(&phase) {
         return Step { phase, used: 0 };
@@ -254,5 +203,8 @@ pub(crate) fn take_all(alloc: Global, phase: Phase, piece: &[u8]) -> Step
         now = step.phase;
         used += step.used;
     }
-    Step { phase: now, used }
+    Step {
+        phase: noted(now, used == piece.len()),
+        used,
+    }
 }

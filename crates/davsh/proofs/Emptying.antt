@@ -7,9 +7,7 @@ use Rattle.dav_edge.specs.Device.{Answer, Happened}
 use Rattle.dav_edge.specs.Connections.{Connection, connection, Connections, none_yet, all_of, after_calls}
 use Rattle.dav_edge.proofs.Connecting.{after_calls-append, begins_and_last, ended_after_calls}
 use Rattle.dav_text.specs.Path.{PathParts}
-use Rattle.dav_text.specs.declared.method.Method.TheVariants.{Put}
-use Rattle.dav_frame.specs.declared.reader.Reply.{Reply}
-use Rattle.dav_frame.specs.Framing.{Framing, Gives as GivesReply}
+use Rattle.dav_frame.specs.Framing.{Message}
 use Rattle.dav_desk.specs.Table.{Table, IsWithin, IsQueued, IsLost, IsInFlight}
 use Rattle.dav_desk.specs.Kept.{HoldsFile, lost_files_of}
 use Rattle.dav_desk.specs.After.{after}
@@ -21,7 +19,7 @@ use Rattle.dav_desk.specs.declared.ask.Ask.TheVariants.{Settle}
 use Rattle.dav_desk.specs.declared.ask.Done.{Done}
 use Rattle.dav_desk.specs.declared.ask.Done.TheVariants as done
 use Rattle.dav_desk.proofs.Laws.{take_is_within, take_keeps_queued, take_loses_nothing, take_puts_in_flight, settle_is_within, settle_keeps_lost, sent_keeps_others, again_ends_flight_alone, refused_keeps_all}
-use Rattle.davsh.specs.Exchange.{Heard, Uploads, sends, memory as no_memory, put_text, is_success, asks_again}
+use Rattle.davsh.specs.Exchange.{Heard, HasReply, Uploads, sends, memory as no_memory, put_text, is_success, asks_again}
 use Rattle.davsh.specs.Drain.{Drains, Turn, Starved, idle, memory, starved, turn, done_of}
 use Rattle.davsh.specs.Kept.{WasPut}
 use Rattle.davsh.proofs.Putting.{Answered, exchange_replied}
@@ -41,10 +39,9 @@ pub record Put1 (host : List ℕ) (path : PathParts) (bytes : List ℕ) (events 
   pub named : PathParts
   pub same : named.segments ≡ path.segments
   pub sent : connection.sent ≡ put_text host named bytes
-  pub reply : Reply
-  pub rest : List ℕ
-  pub received : Framing Put connection.received (GivesReply reply rest)
-  pub success : is_success reply.status ≡ true
+  pub reply : Message
+  pub received : HasReply connection.received reply
+  pub success : is_success reply.head.status ≡ true
 
 pub put_first : (host : List ℕ) (path : PathParts) (bytes : List ℕ) (es fs : List Happened) → Put1 host path bytes es → Put1 host path bytes (es ++ fs)
 put_first host path bytes es fs one = record {
@@ -59,7 +56,6 @@ put_first host path bytes es fs one = record {
   same = one.same;
   sent = one.sent;
   reply = one.reply;
-  rest = one.rest;
   received = one.received;
   success = one.success;
 }
@@ -74,7 +70,6 @@ put_later host path bytes es fs one = record {
   same = one.same;
   sent = one.sent;
   reply = one.reply;
-  rest = one.rest;
   received = one.received;
   success = one.success;
 }
@@ -92,8 +87,7 @@ put_answered host path bytes named status events same answered success =
       same = same;
       sent = refl;
       reply = answered.reply;
-      rest = answered.rest;
-      received = answered.framing;
+      received = answered.has;
       success = ap is_success answered.is ∙ success;
     }
 
@@ -121,7 +115,6 @@ put_as host from path sent bytes events is one = record {
   same = one.same ∙ is.0;
   sent = one.sent ∙ ap (put_text host one.named) is.1;
   reply = one.reply;
-  rest = one.rest;
   received = one.received;
   success = one.success;
 }
@@ -225,7 +218,6 @@ was_put host path bytes events one = record {
   same = one.same;
   sent = one.sent;
   reply = one.reply;
-  rest = one.rest;
   received = one.received;
   success = one.success;
 }

@@ -1,5 +1,5 @@
 -- What each call does to the machines of an exchange.
-use Rattle.std.proofs.Common.{◌≡◌, ◌≢◌, ◌<◌, ◌≤◌, inl, inr, ℕ, List, [], ◌∷◌, ◌++◌, length, take, drop, Some, None, Ok, Err, true, false, sym, subst, arith, append_assoc, append-nil, length-take}
+use Rattle.std.proofs.Common.{◌≡◌, ◌≢◌, ◌<◌, ◌≤◌, inl, inr, ℕ, List, [], ◌∷◌, ◌++◌, length, take, drop, Option, ◌⊎◌, Some, None, Ok, Err, true, false, sym, subst, arith, append_assoc, append-nil, length-take}
 use Rattle.std.proofs.lemmas.List.{drop_all}
 use Rattle.dav_machine.specs.Devices.{one_device}
 use Rattle.dav_machine.specs.Machine.{Run, give, and_then}
@@ -14,11 +14,9 @@ use Rattle.dav_text.specs.Path.{PathParts}
 use Rattle.dav_frame.specs.declared.fault.FrameFault.{FrameFault}
 use Rattle.dav_frame.specs.declared.fault.FrameFault.TheVariants as faults
 use Rattle.dav_frame.specs.declared.phase.Phase.{Phase}
-use Rattle.dav_frame.specs.declared.phase.Phase.TheVariants as phases
-use Rattle.dav_frame.specs.declared.reader.Reply.{Reply}
-use Rattle.dav_frame.specs.Framing.{Outcome, Framing, Gives as GivesReply, Faults, Short}
-use Rattle.dav_frame.specs.Reading.{FromPhase, Leads, IsWhole}
-use Rattle.davsh.specs.Exchange.{Heard, IsHeardOf, Judged, whole, broken, short, memory, Hears, hears_if, Talks, Shuts, Exchanges, Uploads, put_text}
+use Rattle.dav_frame.specs.Framing.{Message, Outcome, Framing, Gives as GivesReply, Closes, Faults, Short}
+use Rattle.dav_frame.specs.Reading.{FromPhase, Leads, Waits}
+use Rattle.davsh.specs.Exchange.{Heard, IsHeardOf, StaysOpen, Judged, whole, broken, short, memory, Ended, closed, cut, Hears, hears_if, Talks, Shuts, Exchanges, Uploads, put_text}
 use Rattle.davsh.specs.Exchange.{sends as sends_file, memory as no_memory}
 
 -- a reader that began with so much of a stream
@@ -32,25 +30,26 @@ reads_on so_far piece old new used from leads all more outcome here =
     subst (λ (l : List ℕ). Framing Put l outcome) (sym (append_assoc so_far piece more))
     (from (piece ++ more) outcome (leads more outcome (subst (λ (l : List ℕ). FromPhase new (l ++ more) outcome) (sym none) here)))
 
-pub reads_short : (so_far piece : List ℕ) (old new : Phase) (used : ℕ) → ReadsFrom so_far old → Leads old piece new (drop used piece) → used ≡ length piece → FromPhase new [] Short → Framing Put (so_far ++ piece) Short
-reads_short so_far piece old new used from leads all here =
-    subst (λ (l : List ℕ). Framing Put l Short) (append-nil (so_far ++ piece)) (reads_on so_far piece old new used from leads all [] Short here)
+-- the bytes so far, where they lead to a phase
+reads_here : (so_far : List ℕ) (phase : Phase) (outcome : Outcome) → ReadsFrom so_far phase → FromPhase phase [] outcome → Framing Put so_far outcome
+reads_here so_far phase outcome from here = subst (λ (l : List ℕ). Framing Put l outcome) (append-nil so_far) (from [] outcome here)
+
+stays_open : (so_far : List ℕ) (phase : Phase) → ReadsFrom so_far phase → Waits phase → StaysOpen so_far
+stays_open so_far phase from (inl here) = inl (reads_here so_far phase Short from here)
+stays_open so_far phase from (inr (reply, here)) = inr (reply, reads_here so_far phase (Closes reply) from here)
+
+pub reads_short : (so_far piece : List ℕ) (old new : Phase) (used : ℕ) → ReadsFrom so_far old → Leads old piece new (drop used piece) → used ≡ length piece → Waits new → StaysOpen (so_far ++ piece)
+reads_short so_far piece old new used from leads all here = stays_open (so_far ++ piece) new (reads_on so_far piece old new used from leads all) here
 
 pub reads_fault : (so_far piece : List ℕ) (old : Phase) (fault : FrameFault) → ReadsFrom so_far old → ((more : List ℕ) → FromPhase old (piece ++ more) (Faults fault)) → Framing Put (so_far ++ piece) (Faults fault)
 reads_fault so_far piece old fault from faults =
     subst (λ (l : List ℕ). Framing Put (so_far ++ l) (Faults fault)) (append-nil piece) (from (piece ++ []) (Faults fault) (faults []))
 
-whole_with : (phase : Phase) (reply : Reply) (rest : List ℕ) → IsWhole phase → FromPhase phase [] (GivesReply reply []) → FromPhase phase rest (GivesReply reply rest)
-whole_with (phases.AtHead method kept) reply rest is from = absurd is
-whole_with (phases.InBody status head body need) reply rest is from = absurd is
-whole_with (phases.Whole status head body) reply rest is from = cc
-whole_with (phases.Failed fault) reply rest is from = absurd is
-
-pub reads_whole : (so_far piece : List ℕ) (old new : Phase) (used : ℕ) (reply : Reply) → ReadsFrom so_far old → Leads old piece new (drop used piece) → IsWhole new → FromPhase new [] (GivesReply reply [])
+pub reads_whole : (so_far piece : List ℕ) (old new : Phase) (used : ℕ) (reply : Message) → ReadsFrom so_far old → Leads old piece new (drop used piece) → ((rest : List ℕ) → FromPhase new rest (GivesReply reply rest))
     → Framing Put (so_far ++ piece) (GivesReply reply (drop used piece))
-reads_whole so_far piece old new used reply from leads is here =
+reads_whole so_far piece old new used reply from leads here =
     let left = drop used piece in
-    let there : FromPhase new (left ++ []) (GivesReply reply left) = subst (λ (l : List ℕ). FromPhase new l (GivesReply reply left)) (sym (append-nil left)) (whole_with new reply left is here) in
+    let there : FromPhase new (left ++ []) (GivesReply reply left) = subst (λ (l : List ℕ). FromPhase new l (GivesReply reply left)) (sym (append-nil left)) (here left) in
     subst (λ (l : List ℕ). Framing Put (so_far ++ l) (GivesReply reply left)) (append-nil piece) (from (piece ++ []) (GivesReply reply left) (leads [] (GivesReply reply left) there))
 
 hears_given : (a b : DeviceLog) (so_far piece : List ℕ) (g : ByteMachine Heard) → 0 < length piece → Grew a b (happened (Receive 4096) (Gives piece) ∷ [])
@@ -68,15 +67,15 @@ hears_piece a b so_far buf room n g is some fits grew judged =
     hears_given a b so_far (take n buf) g (simp length-take (omega arith)) (subst (λ (r : ℕ). Grew a b (happened (Receive r) (Gives (take n buf)) ∷ [])) is grew) judged
 
 pub hears_short : (a b : DeviceLog) (so_far buf : List ℕ) (room n : ℕ) → room ≡ 4096 → (n ≡ 0 → ⊥) → n ≤ length buf → Grew a b (received room buf (Ok n) ∷ [])
-    → Framing Put (so_far ++ take n buf) Short → ReachesOn a b (Hears so_far) (Hears (so_far ++ take n buf))
+    → StaysOpen (so_far ++ take n buf) → ReachesOn a b (Hears so_far) (Hears (so_far ++ take n buf))
 hears_short a b so_far buf room n is some fits grew framing =
     hears_piece a b so_far buf room n (Hears (so_far ++ take n buf)) is some fits grew (λ left run does. short framing does)
 
-pub hears_whole : (a b : DeviceLog) (so_far buf : List ℕ) (room n : ℕ) (reply : Reply) (rest : List ℕ) (heard : Heard) → room ≡ 4096 → (n ≡ 0 → ⊥) → n ≤ length buf → Grew a b (received room buf (Ok n) ∷ [])
-    → Framing Put (so_far ++ take n buf) (GivesReply reply rest) → heard ≡ Ok (Some reply.status) → DoesOn a b (Hears so_far) heard
+pub hears_whole : (a b : DeviceLog) (so_far buf : List ℕ) (room n : ℕ) (reply : Message) (rest : List ℕ) (heard : Heard) → room ≡ 4096 → (n ≡ 0 → ⊥) → n ≤ length buf → Grew a b (received room buf (Ok n) ∷ [])
+    → Framing Put (so_far ++ take n buf) (GivesReply reply rest) → heard ≡ Ok (Some reply.head.status) → DoesOn a b (Hears so_far) heard
 hears_whole a b so_far buf room n reply rest heard is some fits grew framing gives =
     subst (λ (h : Heard). DoesOn a b (Hears so_far) h) (sym gives)
-    (hears_piece a b so_far buf room n (give one_device (Ok (Some reply.status))) is some fits grew (λ left run does. whole reply rest framing does))
+    (hears_piece a b so_far buf room n (give one_device (Ok (Some reply.head.status))) is some fits grew (λ left run does. whole reply rest framing does))
 
 pub hears_broken : (a b : DeviceLog) (so_far buf : List ℕ) (room n : ℕ) (fault : FrameFault) → room ≡ 4096 → (n ≡ 0 → ⊥) → n ≤ length buf → Grew a b (received room buf (Ok n) ∷ [])
     → Framing Put (so_far ++ take n buf) (Faults fault) → DoesOn a b (Hears so_far) (Ok None)
@@ -97,14 +96,30 @@ hears_fault a b so_far buf room n old fault heard is some fits grew from faulty 
     subst (λ (h : Heard). DoesOn a b (Hears so_far) h) (sym broke.1)
     (hears_broken a b so_far buf room n fault is some fits grew (reads_fault so_far (take n buf) old fault from (faulty broke.0)))
 
-hears_nothing : (a b : DeviceLog) (so_far : List ℕ) → Grew a b (happened (Receive 4096) (Gives []) ∷ []) → DoesOn a b (Hears so_far) (Ok None)
+hears_nothing : (a b : DeviceLog) (so_far : List ℕ) (heard : Heard) → Grew a b (happened (Receive 4096) (Gives []) ∷ [])
+    → ((left : List Answer) (run : Run (List Happened) (List Answer) Heard) → give one_device heard left run → Ended so_far left run) → DoesOn a b (Hears so_far) heard
 unfolding Hears
-hears_nothing a b so_far grew = on_call a b (Hears so_far) (give one_device (Ok None)) (happened (Receive 4096) (Gives [])) grew (λ more run does. does)
+hears_nothing a b so_far heard grew ends =
+    on_call a b (Hears so_far) (give one_device heard) (happened (Receive 4096) (Gives [])) grew (λ more run does. record { rest = does.rest; does = ends more does.rest does.does; is = does.is })
+
+-- what the reader answers at the connection's end
+abbrev pub IsEnded : Phase → Option ℕ → Type 0
+IsEnded phase status =
+    ((reply : Message) × FromPhase phase [] (Closes reply) × (status ≡ Some reply.head.status)) ⊎ (FromPhase phase [] Short × (status ≡ None))
+
+ended_so : (so_far : List ℕ) (phase : Phase) (status : Option ℕ) → ReadsFrom so_far phase → IsEnded phase status
+    → (left : List Answer) (run : Run (List Happened) (List Answer) Heard) → give one_device (Ok status) left run → Ended so_far left run
+ended_so so_far phase status from (inl (reply, here, is)) left run gives =
+    closed reply (reads_here so_far phase (Closes reply) from here) (subst (λ (o : Option ℕ). give one_device (Ok o) left run) is gives)
+ended_so so_far phase status from (inr (here, is)) left run gives =
+    cut (reads_here so_far phase Short from here) (subst (λ (o : Option ℕ). give one_device (Ok o) left run) is gives)
 
 -- the connection came to its end
-pub hears_end : (a b : DeviceLog) (so_far buf : List ℕ) (room n : ℕ) → room ≡ 4096 → n ≡ 0 → Grew a b (received room buf (Ok n) ∷ []) → DoesOn a b (Hears so_far) (Ok None)
-hears_end a b so_far buf room n is none grew =
-    hears_nothing a b so_far (subst (λ (k : ℕ). Grew a b (happened (Receive 4096) (Gives (take k buf)) ∷ [])) none (subst (λ (r : ℕ). Grew a b (happened (Receive r) (Gives (take n buf)) ∷ [])) is grew))
+pub hears_end : (a b : DeviceLog) (so_far buf : List ℕ) (room n : ℕ) (phase : Phase) (status : Option ℕ) → room ≡ 4096 → n ≡ 0 → Grew a b (received room buf (Ok n) ∷ []) → ReadsFrom so_far phase → IsEnded phase status
+    → DoesOn a b (Hears so_far) (Ok status)
+hears_end a b so_far buf room n phase status is none grew from ends =
+    hears_nothing a b so_far (Ok status) (subst (λ (k : ℕ). Grew a b (happened (Receive 4096) (Gives (take k buf)) ∷ [])) none (subst (λ (r : ℕ). Grew a b (happened (Receive r) (Gives (take n buf)) ∷ [])) is grew))
+    (ended_so so_far phase status from ends)
 
 pub hears_failed : (a b : DeviceLog) (so_far buf : List ℕ) (room : ℕ) (e : Failed) → room ≡ 4096 → Grew a b (received room buf (Err e) ∷ []) → DoesOn a b (Hears so_far) (Ok None)
 unfolding Hears

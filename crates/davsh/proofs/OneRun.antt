@@ -9,8 +9,8 @@ use Rattle.dav_edge.specs.Whole.{Sends}
 use Rattle.dav_text.specs.Path.{PathParts}
 use Rattle.dav_text.specs.declared.memory.Memory.{Memory}
 use Rattle.dav_text.specs.declared.method.Method.TheVariants.{Put}
-use Rattle.dav_frame.specs.declared.reader.Reply.{Reply}
-use Rattle.dav_frame.specs.Framing.{Gives as GivesReply, Faults, Short}
+use Rattle.dav_frame.specs.Framing.{Message, Framing, Gives as GivesReply, Closes as ClosesReply, Faults, Short}
+use Rattle.dav_frame.specs.declared.fault.FrameFault.{FrameFault}
 use Rattle.dav_frame.proofs.OutcomeLemmas.{unique}
 use Rattle.dav_desk.specs.Table.{Table}
 use Rattle.dav_desk.specs.After.{after, Stepped}
@@ -25,7 +25,7 @@ use Rattle.davsh.specs.declared.stop.Stop.TheVariants.{End, Input, Output}
 use Rattle.davsh.specs.declared.ended.Status.TheVariants as status
 use Rattle.davsh.specs.Line.{without_return, IsPut, IsNoPut}
 use Rattle.davsh.specs.Shell.{State, state, fresh_state, counted, faulted, starved, closed_line, syntax_line, limit_line, Answered, nothing, syntax, closed, limit, memory, Carries, goes_on, AtEnd, Shell}
-use Rattle.davsh.specs.Exchange.{Heard, Judged, whole, broken, short, memory as no_memory, Hears, hears_if, Talks, Shuts, Exchanges, Uploads, sends, memory as not_sent}
+use Rattle.davsh.specs.Exchange.{Heard, StaysOpen, Judged, whole, broken, short, memory as no_memory, Ended, closed, cut, Hears, hears_if, Talks, Shuts, Exchanges, Uploads, sends, memory as not_sent}
 use Rattle.davsh.specs.Drain.{Drains, Turn, idle, memory as drain_memory, starved as drain_starved, turn, done_of}
 use Rattle.davsh.specs.Run.{Answers, both, the_sink, the_wire, Ending, ending, with_table, without_memory, RunMachine, Says, words_end, input_end, memory_end, Starves, closing_status, left_text, Closes, tells, memory as left_memory, after_drain, after_shell, RunsOn, Runs, refused, on}
 use Rattle.davsh.specs.Kept.{Told, Walks}
@@ -225,25 +225,48 @@ HeardRun = Run (List Happened) (List Answer) Heard
 starved_heard : (want : Memory) (left : List Answer) (r : HeardRun) (P : Type 0) → give one_device (Err want) left r → HeardFed r.result → P
 starved_heard want left r P gives fed = absurd (subst (λ (run : HeardRun). HeardFed run.result) gives fed)
 
+open_no_reply : (so_far : List ℕ) (reply : Message) (rest : List ℕ) → StaysOpen so_far → Framing Put so_far (GivesReply reply rest) → ⊥
+open_no_reply so_far reply rest (inl framing) too =
+    let o : Short ≡ GivesReply reply rest = unique Put so_far Short (GivesReply reply rest) framing too in cc
+open_no_reply so_far reply rest (inr (other, framing)) too =
+    let o : ClosesReply other ≡ GivesReply reply rest = unique Put so_far (ClosesReply other) (GivesReply reply rest) framing too in cc
+
+open_no_fault : (so_far : List ℕ) (fault : FrameFault) → StaysOpen so_far → Framing Put so_far (Faults fault) → ⊥
+open_no_fault so_far fault (inl framing) too =
+    let o : Short ≡ Faults fault = unique Put so_far Short (Faults fault) framing too in cc
+open_no_fault so_far fault (inr (other, framing)) too =
+    let o : ClosesReply other ≡ Faults fault = unique Put so_far (ClosesReply other) (Faults fault) framing too in cc
+
+one_ended : (so_far : List ℕ) (left : List Answer) (r q : HeardRun) → Ended so_far left r → Ended so_far left q → r ≡ q
+one_ended so_far left r q (closed reply framing gives) (closed other too same) =
+    let o : ClosesReply reply ≡ ClosesReply other = unique Put so_far (ClosesReply reply) (ClosesReply other) framing too in
+    let replies : reply ≡ other = cc in
+    gives ∙ ap (λ (x : Message). let run : HeardRun = run_with (Ok (Some x.head.status)) [] left in run) replies ∙ sym same
+one_ended so_far left r q (closed reply framing gives) (cut too same) =
+    let o : ClosesReply reply ≡ Short = unique Put so_far (ClosesReply reply) Short framing too in cc
+one_ended so_far left r q (cut framing gives) (closed other too same) =
+    let o : Short ≡ ClosesReply other = unique Put so_far Short (ClosesReply other) framing too in cc
+one_ended so_far left r q (cut framing gives) (cut too same) = gives ∙ sym same
+
 one_judged : (so_far : List ℕ) (GoesOn : HeardRun → Type 0) (left : List Answer) (r q : HeardRun) → ((x y : HeardRun) → GoesOn x → GoesOn y → HeardFed x.result → HeardFed y.result → x ≡ y)
     → Judged so_far GoesOn left r → Judged so_far GoesOn left q → HeardFed r.result → HeardFed q.result → r ≡ q
 one_judged so_far GoesOn left r q later (whole reply rest framing gives) (whole other more too same) fr fq =
     let o : GivesReply reply rest ≡ GivesReply other more = unique Put so_far (GivesReply reply rest) (GivesReply other more) framing too in
     let replies : reply ≡ other = cc in
-    gives ∙ ap (λ (x : Reply). let run : HeardRun = run_with (Ok (Some x.status)) [] left in run) replies ∙ sym same
+    gives ∙ ap (λ (x : Message). let run : HeardRun = run_with (Ok (Some x.head.status)) [] left in run) replies ∙ sym same
 one_judged so_far GoesOn left r q later (whole reply rest framing gives) (broken fault too same) fr fq =
     let o : GivesReply reply rest ≡ Faults fault = unique Put so_far (GivesReply reply rest) (Faults fault) framing too in cc
 one_judged so_far GoesOn left r q later (whole reply rest framing gives) (short too goes) fr fq =
-    let o : GivesReply reply rest ≡ Short = unique Put so_far (GivesReply reply rest) Short framing too in cc
+    absurd (open_no_reply so_far reply rest too framing)
 one_judged so_far GoesOn left r q later (broken fault framing gives) (whole other more too same) fr fq =
     let o : Faults fault ≡ GivesReply other more = unique Put so_far (Faults fault) (GivesReply other more) framing too in cc
 one_judged so_far GoesOn left r q later (broken fault framing gives) (broken other too same) fr fq = gives ∙ sym same
 one_judged so_far GoesOn left r q later (broken fault framing gives) (short too goes) fr fq =
-    let o : Faults fault ≡ Short = unique Put so_far (Faults fault) Short framing too in cc
+    absurd (open_no_fault so_far fault too framing)
 one_judged so_far GoesOn left r q later (short framing goes) (whole other more too same) fr fq =
-    let o : Short ≡ GivesReply other more = unique Put so_far Short (GivesReply other more) framing too in cc
+    absurd (open_no_reply so_far other more framing too)
 one_judged so_far GoesOn left r q later (short framing goes) (broken other too same) fr fq =
-    let o : Short ≡ Faults other = unique Put so_far Short (Faults other) framing too in cc
+    absurd (open_no_fault so_far other framing too)
 one_judged so_far GoesOn left r q later (short framing goes) (short too on_) fr fq = later r q goes on_ fr fq
 one_judged so_far GoesOn left r q later (no_memory want gives) two fr fq = starved_heard want left r (r ≡ q) gives fr
 one_judged so_far GoesOn left r q later (whole reply rest framing gives) (no_memory want same) fr fq = starved_heard want left q (r ≡ q) same fq
@@ -256,7 +279,7 @@ one_hears so_far [] r q d e fr fq = absurd d
 one_hears so_far (Fails ∷ more) r q d e fr fq = one_calls _ (give one_device (Ok None) more) HeardFed r q d e fr fq (λ x y c k fx fy. c ∙ sym k)
 one_hears so_far (Goes ∷ more) r q d e fr fq = absurd d
 one_hears so_far (Takes n ∷ more) r q d e fr fq = absurd d
-one_hears so_far (Gives [] ∷ more) r q d e fr fq = one_calls _ (give one_device (Ok None) more) HeardFed r q d e fr fq (λ x y c k fx fy. c ∙ sym k)
+one_hears so_far (Gives [] ∷ more) r q d e fr fq = one_calls _ (Ended so_far more) HeardFed r q d e fr fq (λ x y c k fx fy. one_ended so_far more x y c k)
 one_hears so_far (Gives (b ∷ bytes) ∷ more) r q d e fr fq =
     one_calls _ (Judged (so_far ++ b ∷ bytes) (Hears (so_far ++ b ∷ bytes) more) more) HeardFed r q d e fr fq
     (λ x y c k fx fy. one_judged (so_far ++ b ∷ bytes) (Hears (so_far ++ b ∷ bytes) more) more x y (λ v w. one_hears (so_far ++ b ∷ bytes) more v w) c k fx fy)

@@ -1,6 +1,6 @@
 -- What an exchange that gave the status of a reply made on its wire: one connection, on which the whole text was
 -- sent and a whole reply came.
-use Rattle.std.proofs.Common.{◌≡◌, ℕ, List, [], ◌∷◌, ◌++◌, Some, None, Ok, Err, Bool, true, false, refl, sym, ◌∙◌, ap, subst, append_assoc}
+use Rattle.std.proofs.Common.{◌≡◌, ℕ, List, [], ◌∷◌, ◌++◌, Some, None, Ok, Err, Bool, true, false, refl, sym, ◌∙◌, ap, subst, append_assoc, append-nil}
 use Rattle.dav_machine.specs.Devices.{one_device}
 use Rattle.dav_machine.specs.Machine.{Run, run_with, prepend, give, Follows}
 use Rattle.dav_edge.specs.Device.{Connect, Receive, Fails, Goes, Takes, Gives, Answer, Happened, happened, shut_down, taken}
@@ -10,9 +10,8 @@ use Rattle.dav_edge.proofs.Connecting.{after_calls-append}
 use Rattle.dav_edge.proofs.Sending.{sent_so, sends_standing}
 use Rattle.dav_text.specs.declared.memory.Memory.{Memory}
 use Rattle.dav_text.specs.declared.method.Method.TheVariants.{Put}
-use Rattle.dav_frame.specs.declared.reader.Reply.{Reply}
-use Rattle.dav_frame.specs.Framing.{Framing, Gives as GivesReply}
-use Rattle.davsh.specs.Exchange.{Heard, Judged, whole, broken, short, memory, Hears, hears_if, Talks, Shuts, Exchanges}
+use Rattle.dav_frame.specs.Framing.{Message, Framing, Gives as GivesReply, Closes}
+use Rattle.davsh.specs.Exchange.{Heard, HasReply, is_whole, is_closed, Judged, whole, broken, short, memory, Ended, closed, cut, Hears, hears_if, Talks, Shuts, Exchanges}
 
 abbrev HeardRun : Type 0
 HeardRun = Run (List Happened) (List Answer) Heard
@@ -20,24 +19,22 @@ HeardRun = Run (List Happened) (List Answer) Heard
 -- more bytes were received on the connection that stands, and with them a whole reply of this status stands
 pub record Replied (so_far : List ℕ) (status : ℕ) (events : List Happened) : Type 0 where
   pub bytes : List ℕ
-  pub reply : Reply
-  pub rest : List ℕ
-  pub framing : Framing Put (so_far ++ bytes) (GivesReply reply rest)
-  pub is : reply.status ≡ status
+  pub reply : Message
+  pub has : HasReply (so_far ++ bytes) reply
+  pub is : reply.head.status ≡ status
   pub receives : (ended : List Connection) (c : Connection) → after_calls (with_standing ended (Some c)) events ≡ with_standing ended (Some (receiving bytes c))
 
 replied_piece : (so_far piece : List ℕ) (status : ℕ) (e : Happened) (left : List Answer) (run rest : HeardRun) → e ≡ happened (Receive 4096) (Gives piece) → run ≡ prepend one_device (e ∷ []) rest → run.result ≡ Ok (Some status)
-    → (reply : Reply) (after : List ℕ) → Framing Put (so_far ++ piece) (GivesReply reply after) → give one_device (Ok (Some reply.status)) left rest → Replied so_far status run.made
+    → (reply : Message) (after : List ℕ) → Framing Put (so_far ++ piece) (GivesReply reply after) → give one_device (Ok (Some reply.head.status)) left rest → Replied so_far status run.made
 replied_piece so_far piece status e left run rest e_is is heard reply after framing gives =
-    let run_is : run ≡ run_with (Ok (Some reply.status)) (happened (Receive 4096) (Gives piece) ∷ []) left =
-    is ∙ ap (prepend one_device (e ∷ [])) gives ∙ ap (λ (x : Happened). let r : HeardRun = run_with (Ok (Some reply.status)) (x ∷ []) left in r) e_is in
+    let run_is : run ≡ run_with (Ok (Some reply.head.status)) (happened (Receive 4096) (Gives piece) ∷ []) left =
+    is ∙ ap (prepend one_device (e ∷ [])) gives ∙ ap (λ (x : Happened). let r : HeardRun = run_with (Ok (Some reply.head.status)) (x ∷ []) left in r) e_is in
     let made : run.made ≡ happened (Receive 4096) (Gives piece) ∷ [] = ap (λ (r : HeardRun). r.made) run_is in
-    let same : Ok (Some reply.status) ≡ Ok (Some status) = sym (ap (λ (r : HeardRun). r.result) run_is) ∙ heard in
+    let same : Ok (Some reply.head.status) ≡ Ok (Some status) = sym (ap (λ (r : HeardRun). r.result) run_is) ∙ heard in
     subst (Replied so_far status) (sym made) (record {
       bytes = piece;
       reply = reply;
-      rest = after;
-      framing = framing;
+      has = is_whole after framing;
       is = cc;
       receives = λ ended c. refl;
     })
@@ -47,8 +44,7 @@ replied_more so_far piece status run rest is more =
     subst (Replied so_far status) (sym (ap (λ (r : HeardRun). r.made) is)) (record {
       bytes = piece ++ more.bytes;
       reply = more.reply;
-      rest = more.rest;
-      framing = subst (λ (l : List ℕ). Framing Put l (GivesReply more.reply more.rest)) (append_assoc so_far piece more.bytes) more.framing;
+      has = subst (λ (l : List ℕ). HasReply l more.reply) (append_assoc so_far piece more.bytes) more.has;
       is = more.is;
       receives = λ ended c. more.receives ended (receiving piece c) ∙ ap (λ (l : List ℕ). with_standing ended (Some (connection c.host c.port c.sent l))) (append_assoc c.received piece more.bytes);
     })
@@ -83,13 +79,31 @@ judged_replied so_far piece status left run rest is heard GoesOn (short framing 
 judged_replied so_far piece status left run rest is heard GoesOn (memory want gives) later =
     no_reply so_far status _ left run rest is heard (Err want) (want_is_no want status) gives
 
+-- a reply whose body ends where the connection does
+ended_replied : (so_far : List ℕ) (status : ℕ) (left : List Answer) (run rest : HeardRun) → run ≡ prepend one_device (happened (Receive 4096) (Gives []) ∷ []) rest → run.result ≡ Ok (Some status)
+    → Ended so_far left rest → Replied so_far status run.made
+ended_replied so_far status left run rest is heard (closed reply framing gives) =
+    let run_is : run ≡ run_with (Ok (Some reply.head.status)) (happened (Receive 4096) (Gives []) ∷ []) left =
+    is ∙ ap (prepend one_device (happened (Receive 4096) (Gives []) ∷ [])) gives in
+    let made : run.made ≡ happened (Receive 4096) (Gives []) ∷ [] = ap (λ (r : HeardRun). r.made) run_is in
+    let same : Ok (Some reply.head.status) ≡ Ok (Some status) = sym (ap (λ (r : HeardRun). r.result) run_is) ∙ heard in
+    subst (Replied so_far status) (sym made) (record {
+      bytes = [];
+      reply = reply;
+      has = is_closed (subst (λ (l : List ℕ). Framing Put l (Closes reply)) (sym (append-nil so_far)) framing);
+      is = cc;
+      receives = λ ended c. refl;
+    })
+ended_replied so_far status left run rest is heard (cut framing gives) =
+    no_reply so_far status _ left run rest is heard (Ok None) (none_is_no status) gives
+
 pub hears_replied : (so_far : List ℕ) (status : ℕ) (answers : List Answer) (run : HeardRun) → Hears so_far answers run → run.result ≡ Ok (Some status) → Replied so_far status run.made
 unfolding Hears
 hears_replied so_far status [] run does heard = absurd does
 hears_replied so_far status (Fails ∷ more) run does heard = no_reply so_far status _ more run does.rest does.is heard (Ok None) (none_is_no status) does.does
 hears_replied so_far status (Goes ∷ more) run does heard = absurd does
 hears_replied so_far status (Takes n ∷ more) run does heard = absurd does
-hears_replied so_far status (Gives [] ∷ more) run does heard = no_reply so_far status _ more run does.rest does.is heard (Ok None) (none_is_no status) does.does
+hears_replied so_far status (Gives [] ∷ more) run does heard = ended_replied so_far status more run does.rest does.is heard does.does
 hears_replied so_far status (Gives (b ∷ bytes) ∷ more) run does heard =
     judged_replied so_far (b ∷ bytes) status more run does.rest does.is heard (Hears (so_far ++ b ∷ bytes) more) does.does
     (λ goes still. hears_replied (so_far ++ b ∷ bytes) status more does.rest goes still)
@@ -97,19 +111,17 @@ hears_replied so_far status (Gives (b ∷ bytes) ∷ more) run does heard =
 -- on one connection to the host's port the whole text was sent, and a whole reply of this status came
 pub record Answered (host text : List ℕ) (status : ℕ) (events : List Happened) : Type 0 where
   pub received : List ℕ
-  pub reply : Reply
-  pub rest : List ℕ
-  pub framing : Framing Put received (GivesReply reply rest)
-  pub is : reply.status ≡ status
+  pub reply : Message
+  pub has : HasReply received reply
+  pub is : reply.head.status ≡ status
   pub makes : (cs : Connections) → after_calls cs events ≡ with_standing (all_of cs ++ connection host 80 text received ∷ []) None
 
 -- what the text and its reply add to a connection that stands
 record Talked (text : List ℕ) (status : ℕ) (events : List Happened) : Type 0 where
   received : List ℕ
-  reply : Reply
-  rest : List ℕ
-  framing : Framing Put received (GivesReply reply rest)
-  is : reply.status ≡ status
+  reply : Message
+  has : HasReply received reply
+  is : reply.head.status ≡ status
   adds : (ended : List Connection) (c : Connection) → after_calls (with_standing ended (Some c)) events ≡ with_standing ended (Some (receiving received (sending text c)))
 
 talks_by : (text : List ℕ) (status : ℕ) (answers : List Answer) (run : HeardRun) (all : Bool) (does : Follows one_device (Sends text) hears_if answers run) → does.before.result ≡ all
@@ -121,8 +133,7 @@ talks_by text status answers run true does sent hears heard =
     subst (Talked text status) (sym made) (record {
       received = replied.bytes;
       reply = replied.reply;
-      rest = replied.rest;
-      framing = replied.framing;
+      has = replied.has;
       is = replied.is;
       adds = λ ended c.
           after_calls-append (with_standing ended (Some c)) does.before.made does.after.made
@@ -160,8 +171,7 @@ connected_replied host text status answers run rest is does heard =
     subst (Answered host text status) (sym made) (record {
       received = talked.received;
       reply = talked.reply;
-      rest = talked.rest;
-      framing = talked.framing;
+      has = talked.has;
       is = talked.is;
       makes = λ cs.
           after_calls-append (with_standing (all_of cs) (Some (connection host 80 [] []))) does.before.made does.after.made

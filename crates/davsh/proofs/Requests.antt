@@ -16,7 +16,7 @@ use Rattle.dav_desk.specs.declared.answer.Answer.TheVariants.{Took, Settled}
 use Rattle.dav_desk.specs.declared.answer.Job.{Job}
 use Rattle.dav_desk.specs.declared.ask.Ask.TheVariants.{Take}
 use Rattle.dav_desk.proofs.Laws.{take_is_within, take_keeps_files, take_gives_queued, take_marks_path, take_keeps_taken, take_gives_other, settle_is_within, settle_queues_nothing, settle_keeps_taken}
-use Rattle.davsh.specs.Exchange.{Heard, Judged, whole, broken, short, memory, Hears, hears_if, Talks, Shuts, Exchanges, Uploads, sends, memory as no_memory, put_text}
+use Rattle.davsh.specs.Exchange.{Heard, Judged, whole, broken, short, memory, Ended, closed, cut, Hears, hears_if, Talks, Shuts, Exchanges, Uploads, sends, memory as no_memory, put_text}
 use Rattle.davsh.specs.Drain.{Drains, Turn, idle, memory as drain_memory, starved, turn, done_of}
 use Rattle.davsh.specs.Kept.{IsBegun, Pairwise}
 use Rattle.davsh.proofs.Putting.{shuts_down}
@@ -64,10 +64,15 @@ receives_more piece run rest is more =
 
 judged_receives : (so_far piece : List ℕ) (left : List Answer) (run rest : HeardRun) → run ≡ prepend one_device (happened (Receive 4096) (Gives piece) ∷ []) rest
     → (GoesOn : HeardRun → Type 0) → Judged so_far GoesOn left rest → (GoesOn rest → Receives rest.made) → Receives run.made
-judged_receives so_far piece left run rest is GoesOn (whole reply after framing gives) later = receives_piece piece left run rest (Ok (Some reply.status)) is gives
+judged_receives so_far piece left run rest is GoesOn (whole reply after framing gives) later = receives_piece piece left run rest (Ok (Some reply.head.status)) is gives
 judged_receives so_far piece left run rest is GoesOn (broken fault framing gives) later = receives_piece piece left run rest (Ok None) is gives
 judged_receives so_far piece left run rest is GoesOn (short framing goes) later = receives_more piece run rest is (later goes)
 judged_receives so_far piece left run rest is GoesOn (memory want gives) later = receives_piece piece left run rest (Err want) is gives
+
+ended_receives : (so_far : List ℕ) (left : List Answer) (run rest : HeardRun) → run ≡ prepend one_device (happened (Receive 4096) (Gives []) ∷ []) rest
+    → Ended so_far left rest → Receives run.made
+ended_receives so_far left run rest is (closed reply framing gives) = receives_piece [] left run rest (Ok (Some reply.head.status)) is gives
+ended_receives so_far left run rest is (cut framing gives) = receives_piece [] left run rest (Ok None) is gives
 
 hears_receives : (so_far : List ℕ) (answers : List Answer) (run : HeardRun) → Hears so_far answers run → Receives run.made
 unfolding Hears
@@ -75,7 +80,7 @@ hears_receives so_far [] run does = absurd does
 hears_receives so_far (Fails ∷ more) run does = receives_none more run does.rest (Ok None) does.is does.does
 hears_receives so_far (Goes ∷ more) run does = absurd does
 hears_receives so_far (Takes n ∷ more) run does = absurd does
-hears_receives so_far (Gives [] ∷ more) run does = receives_piece [] more run does.rest (Ok None) does.is does.does
+hears_receives so_far (Gives [] ∷ more) run does = ended_receives so_far more run does.rest does.is does.does
 hears_receives so_far (Gives (b ∷ bytes) ∷ more) run does =
     judged_receives (so_far ++ b ∷ bytes) (b ∷ bytes) more run does.rest does.is (Hears (so_far ++ b ∷ bytes) more) does.does
     (λ goes. hears_receives (so_far ++ b ∷ bytes) more does.rest goes)

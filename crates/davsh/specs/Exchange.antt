@@ -11,8 +11,7 @@ use Rattle.dav_frame.specs.declared.fields.FieldName.TheVariants.{IfNoneMatch}
 use Rattle.dav_frame.specs.declared.request.Req.{Req}
 use Rattle.dav_frame.specs.declared.fault.FrameFault.{FrameFault}
 use Rattle.dav_frame.specs.declared.fault.FrameFault.TheVariants as faults
-use Rattle.dav_frame.specs.declared.reader.Reply.{Reply}
-use Rattle.dav_frame.specs.Framing.{Framing, Gives as GivesReply, Faults, Short}
+use Rattle.dav_frame.specs.Framing.{Message, Framing, Gives as GivesReply, Closes, Faults, Short}
 use Rattle.dav_frame.specs.Request.{request_text}
 
 -- the request that stores the bytes as a new file
@@ -36,18 +35,33 @@ Heard = Result (Option ℕ) Memory
 abbrev pub IsHeardOf : FrameFault → Heard → Type 0
 IsHeardOf fault heard = ((want : Memory) × (heard ≡ Err want) × (fault ≡ faults.Memory)) ⊎ ((fault ≢ faults.Memory) × (heard ≡ Ok None))
 
+-- the bytes received hold this reply: a whole one is at their front, or they are one whose body ends where the
+-- connection does
+pub data HasReply (received : List ℕ) (reply : Message) : Type 0 where
+  is_whole : (rest : List ℕ) → Framing Put received (GivesReply reply rest) → HasReply received reply
+  is_closed : Framing Put received (Closes reply) → HasReply received reply
+
+-- what comes next may still belong to the reply
+abbrev pub StaysOpen : List ℕ → Type 0
+StaysOpen so_far = Framing Put so_far Short ⊎ ((reply : Message) × Framing Put so_far (Closes reply))
+
 -- What is done after a piece that isn't the last of the connection, by what the bytes so far are: a whole
 -- reply, no beginning of one, or the beginning of one, behind which the reading goes on.
 pub data Judged (so_far : List ℕ) (GoesOn : Run (List Happened) (List Answer) Heard → Type 0) (left : List Answer) (run : Run (List Happened) (List Answer) Heard) : Type 0 where
-  whole : (reply : Reply) (rest : List ℕ) → Framing Put so_far (GivesReply reply rest) → give one_device (Ok (Some reply.status)) left run → Judged so_far GoesOn left run
+  whole : (reply : Message) (rest : List ℕ) → Framing Put so_far (GivesReply reply rest) → give one_device (Ok (Some reply.head.status)) left run → Judged so_far GoesOn left run
   broken : (fault : FrameFault) → Framing Put so_far (Faults fault) → give one_device (Ok None) left run → Judged so_far GoesOn left run
-  short : Framing Put so_far Short → GoesOn run → Judged so_far GoesOn left run
+  short : StaysOpen so_far → GoesOn run → Judged so_far GoesOn left run
   memory : (want : Memory) → give one_device (Err want) left run → Judged so_far GoesOn left run
+
+-- what is done at the connection's end: the bytes so far are a reply that ends there, or are cut
+pub data Ended (so_far : List ℕ) (left : List Answer) (run : Run (List Happened) (List Answer) Heard) : Type 0 where
+  closed : (reply : Message) → Framing Put so_far (Closes reply) → give one_device (Ok (Some reply.head.status)) left run → Ended so_far left run
+  cut : Framing Put so_far Short → give one_device (Ok None) left run → Ended so_far left run
 
 -- the reply is read, behind what has come of it
 unfoldable pub Hears : List ℕ → ByteMachine Heard
 Hears so_far (Fails ∷ more) run = Calls (happened (Receive 4096) Fails) (give one_device (Ok None) more) run
-Hears so_far (Gives [] ∷ more) run = Calls (happened (Receive 4096) (Gives [])) (give one_device (Ok None) more) run
+Hears so_far (Gives [] ∷ more) run = Calls (happened (Receive 4096) (Gives [])) (Ended so_far more) run
 Hears so_far (Gives (b ∷ bytes) ∷ more) run =
     Calls (happened (Receive 4096) (Gives (b ∷ bytes))) (Judged (so_far ++ b ∷ bytes) (Hears (so_far ++ b ∷ bytes) more) more) run
 Hears so_far _ run = ⊥

@@ -3,10 +3,8 @@ use Rattle.std.specs.Prelude.{◌≡◌, ◌⊎◌, ◌↔◌, ℕ, List, [], �
 use Rattle.dav_machine.specs.Log.{any_failed}
 use Rattle.dav_edge.specs.Device.{Happened, DeviceLog, Grew, given, taken, is_failure}
 use Rattle.dav_edge.specs.Connections.{Connection, connections_of}
-use Rattle.dav_text.specs.declared.method.Method.TheVariants.{Put}
 use Rattle.dav_text.specs.Path.{PathParts}
-use Rattle.dav_frame.specs.declared.reader.Reply.{Reply}
-use Rattle.dav_frame.specs.Framing.{Framing, Gives as GivesReply}
+use Rattle.dav_frame.specs.Framing.{Message}
 use Rattle.dav_desk.specs.Entries.{Differ}
 use Rattle.dav_desk.specs.Kept.{HoldsFile}
 use Rattle.davsh.specs.declared.ended.Ended.{Ended}
@@ -15,7 +13,7 @@ use Rattle.davsh.specs.declared.ended.Status.TheVariants.{Done, Faults, Words, I
 use Rattle.davsh.specs.Words.{IsBase}
 use Rattle.davsh.specs.Line.{lines_of, IsPut}
 use Rattle.davsh.specs.Shell.{State, fresh_state, counted, closed_line, Answered}
-use Rattle.davsh.specs.Exchange.{put_text, is_success}
+use Rattle.davsh.specs.Exchange.{put_text, HasReply, is_success}
 use Rattle.davsh.specs.Run.{Made, BothGrew, Ending, words_end, input_end, memory_end, left_text, EndHeard}
 
 -- a line that was carried out, and what was printed of it
@@ -50,7 +48,8 @@ IsLastClose [] path bytes = ⊥
 IsLastClose (told ∷ more) path bytes = IsLastClose more path bytes ⊎ (IsClose told path bytes × NoClose more path)
 
 -- Among these calls of a wire a connection to the host was sent the whole request that stores the bytes as a
--- new file, and what was received on it begins with a whole reply whose status is 200 to 299.
+-- new file, and what was received on it begins with a whole reply whose status is 200 to 299, or is one whose body
+-- ends where the connection does.
 pub record WasPut (host : List ℕ) (path : PathParts) (bytes : List ℕ) (events : List Happened) : Type 0 where
   pub connection : Connection
   pub among : Contains (connections_of events) connection
@@ -59,10 +58,9 @@ pub record WasPut (host : List ℕ) (path : PathParts) (bytes : List ℕ) (event
   pub named : PathParts
   pub same : named.segments ≡ path.segments
   pub sent : connection.sent ≡ put_text host named bytes
-  pub reply : Reply
-  pub rest : List ℕ
-  pub received : Framing Put connection.received (GivesReply reply rest)
-  pub success : is_success reply.status ≡ true
+  pub reply : Message
+  pub received : HasReply connection.received reply
+  pub success : is_success reply.head.status ≡ true
 
 -- a beginning of the text was sent on the connection, to the host's port 80
 pub record IsBegun (host text : List ℕ) (connection : Connection) : Type 0 where

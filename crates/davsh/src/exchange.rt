@@ -1,9 +1,8 @@
-ghost use Rattle.std.specs.Prelude.{◌≡◌, ◌++◌, [], IfOk, ℕ, List};
+ghost use Rattle.std.specs.Prelude.{◌≡◌, ◌⊎◌, [], IfOk, ℕ, List};
 ghost use Rattle.dav_edge.specs.Whole.{DoesOn};
 ghost use Rattle.davsh.specs.Exchange.{put_request, put_text, IsHeardOf, Hears, Talks, Exchanges, Uploads};
-ghost use Rattle.dav_frame.specs.Framing.{Gives};
-ghost use Rattle.dav_frame.specs.Reading.{FromPhase, IsWhole};
-ghost use Rattle.dav_frame.specs.declared.reader.Reply.{Reply};
+ghost use Rattle.dav_frame.specs.Framing.{Message, Gives, Closes, Short};
+ghost use Rattle.dav_frame.specs.Reading.{FromPhase, IsWhole, IsReading};
 
 use dav_desk::Job;
 use dav_edge::{Wire, send_whole};
@@ -91,7 +90,7 @@ fn hear<V: Wire>(alloc: Global, wire: &mut V) -> Result<Option<u16>, Memory>
             return Ok(None);
         };
         if count == 0 {
-            return Ok(None);
+            return Ok(ended(reader));
         }
         match reader.feed(&buf[..count]) {
             Ok(progress) => {
@@ -117,10 +116,23 @@ fn heard_of(fault: FrameFault) -> Result<Option<u16>, Memory>
 /// The status of the reply that was read.
 fn status_of(reader: ReplyReader) -> Result<Option<u16>, Memory>
     requires { IsWhole reader }
-    ensures { (reply : Reply) × FromPhase reader [] (Gives reply []) × (result ≡ Ok (Some reply.status)) }
+    ensures { (reply : Message) × ((rest : List ℕ) → FromPhase reader rest (Gives reply rest))
+        × (result ≡ Ok (Some reply.head.status)) }
 {
     match reader.end() {
         Ok(reply) => Ok(Some(reply.status)),
         Err(_) => unreachable!(),
+    }
+}
+
+/// The status of a reply whose body ends where the connection did.
+fn ended(reader: ReplyReader) -> Option<u16>
+    requires { IsReading reader }
+    ensures { ((reply : Message) × FromPhase reader [] (Closes reply) × (result ≡ Some reply.head.status))
+        ⊎ (FromPhase reader [] Short × (result ≡ None)) }
+{
+    match reader.end() {
+        Ok(reply) => Some(reply.status),
+        Err(_) => None,
     }
 }

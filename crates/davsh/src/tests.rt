@@ -113,7 +113,7 @@ fn only_the_last_store_of_a_path_is_sent(rt: HostRuntime) -> Result<(), Fail> {
 #[test]
 fn what_the_server_did_not_take_stays_queued(rt: HostRuntime) -> Result<(), Fail> {
     let alloc = rt.alloc();
-    let replies: [&[u8]; 11] = [
+    let replies: [&[u8]; 13] = [
         b"",
         b"HTTP/1.1 201 Created\r\nContent-Length: 5\r\n\r\nshor",
         b"HTTP/1.1 401 Unauthorized\r\nContent-Length: 0\r\n\r\n",
@@ -123,7 +123,9 @@ fn what_the_server_did_not_take_stays_queued(rt: HostRuntime) -> Result<(), Fail
         b"HTTP/1.1 502 Bad Gateway\r\nContent-Length: 0\r\n\r\n",
         b"HTTP/1.1 503 Service Unavailable\r\nContent-Length: 0\r\n\r\n",
         b"HTTP/1.1 504 Gateway Timeout\r\nContent-Length: 0\r\n\r\n",
-        b"HTTP/1.1 201 Created\r\n\r\n",
+        b"HTTP/1.1 100 Continue\r\n\r\n",
+        b"HTTP/1.1 201 Created\r\nContent-Encoding: gzip\r\n\r\n",
+        b"HTTP/1.1 201 Created\r\nTransfer-Encoding: chunked\r\n\r\n1\r\na\r\n0\r\n",
         b"no reply at all\r\n\r\n",
     ];
     for (at, reply) in replies.iter().enumerate() {
@@ -142,10 +144,35 @@ fn what_the_server_did_not_take_stays_queued(rt: HostRuntime) -> Result<(), Fail
 }
 
 #[test]
-fn what_the_server_refused_is_lost(rt: HostRuntime) -> Result<(), Fail> {
+fn a_whole_reply_in_any_form_counts(rt: HostRuntime) -> Result<(), Fail> {
     let alloc = rt.alloc();
     let replies: [&[u8]; 6] = [
+        b"HTTP/1.1 201 Created\r\nContent-Length: 13\r\n\r\n<html></html>",
+        b"HTTP/1.1 201 Created\r\n\r\n<html></html>",
+        b"HTTP/1.0 201 Created\r\n\r\n",
+        b"HTTP/1.1 201 Created\r\nTransfer-Encoding: chunked\r\n\r\n1\r\na\r\n0\r\n\r\n",
+        b"HTTP/1.1 204 No Content\r\n\r\n",
+        b"HTTP/1.1 100 Continue\r\n\r\nHTTP/1.1 201 Created\r\nContent-Length: 0\r\n\r\n",
+    ];
+    for (at, reply) in replies.iter().enumerate() {
+        let streams = [*reply];
+        let outcome = outcome_of(alloc, &on_input(b"fput /a x\n", streams.as_slice()))?;
+        assert_eq!(rt; outcome.status, Status::Done, "at reply {at}");
+        assert!(rt;
+            outcome.out.as_slice() == b"closed /a 1\n".as_slice(),
+            "at reply {at}"
+        );
+        assert!(rt; outcome.ended.queued.is_empty() && outcome.ended.lost.is_empty());
+    }
+    Ok(())
+}
+
+#[test]
+fn what_the_server_refused_is_lost(rt: HostRuntime) -> Result<(), Fail> {
+    let alloc = rt.alloc();
+    let replies: [&[u8]; 7] = [
         b"HTTP/1.1 412 Precondition Failed\r\nContent-Length: 0\r\n\r\n",
+        b"HTTP/1.1 412 Precondition Failed\r\n\r\n<html></html>",
         b"HTTP/1.1 300 Multiple Choices\r\nContent-Length: 0\r\n\r\n",
         b"HTTP/1.1 403 Forbidden\r\nContent-Length: 2\r\n\r\nno",
         b"HTTP/1.1 409 Conflict\r\nContent-Length: 0\r\n\r\n",

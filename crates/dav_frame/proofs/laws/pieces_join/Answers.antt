@@ -1,4 +1,4 @@
-use Rattle.dav_frame.proofs.RunLemmas.{continues_more, gives_reply, gives_fault, gives_short}
+use Rattle.dav_frame.proofs.RunLemmas.{continues_more, gives_reply, gives_fault, gives_end}
 use Rattle.dav_frame.proofs.laws.pieces_join.Goals as goal
 
 pub returns : goal.returns
@@ -6,5 +6,5 @@ returns c = record {
   more = continues_more;
   reply = gives_reply;
   fault = gives_fault;
-  short = gives_short;
+  end = gives_end;
 }

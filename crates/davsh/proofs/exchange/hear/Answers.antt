@@ -7,17 +7,20 @@ use Rattle.davsh.proofs.Exchanging.{reads_on, reads_short, reads_whole, hears_sh
 use Rattle.davsh.proofs.exchange.hear.Goals as goal
 
 pub loop-count-init : goal.loop-count-init
-loop-count-init g c = ([], on_same _ (Hears []), c.new-reader.ensures.starts)
+loop-count-init g c = ([], on_same _ (Hears []), c.new-reader.ensures.starts, c.new-reader.ensures.reading)
 
 pub returns-in_default : goal.returns-in_default
 returns-in_default g c =
     on_then _ _ _ (Hears []) (Hears c.loop-count.invariant.0) (give one_device (Ok None)) c.loop-count.invariant.1
     (hears_failed _ _ c.loop-count.invariant.0 c.receive.new.buf 4096 c.in_default.field-0 refl c.in_default.ensures.log)
 
+pub ended-requires : goal.ended-requires
+ended-requires g c = c.loop-count.invariant.3
+
 pub returns-then-count-eq0 : goal.returns-then-count-eq0
 returns-then-count-eq0 g c =
-    on_then _ _ _ (Hears []) (Hears c.loop-count.invariant.0) (give one_device (Ok None)) c.loop-count.invariant.1
-    (hears_end _ _ c.loop-count.invariant.0 c.receive.new.buf 4096 c.in-Ok.count refl c.if-count-eq0.true c.in-Ok.ensures.log)
+    on_then _ _ _ (Hears []) (Hears c.loop-count.invariant.0) (give one_device (Ok c.ended.result)) c.loop-count.invariant.1
+    (hears_end _ _ c.loop-count.invariant.0 c.receive.new.buf 4096 c.in-Ok.count c.loop-count.reader c.ended.result refl c.if-count-eq0.true c.in-Ok.ensures.log c.loop-count.invariant.2 c.ended.ensures)
 
 pub status_of-requires : goal.status_of-requires
 status_of-requires g c = c.in-Ok-feed.ensures.done.0 c.if-progress.true
@@ -28,7 +31,7 @@ returns-then-progress g c =
     let reply = c.status_of.ensures in
     on_then _ _ _ (Hears []) (Hears so_far) (give one_device _) c.loop-count.invariant.1
     (hears_whole _ _ so_far c.receive.new.buf 4096 c.in-Ok.count reply.0 _ _ refl c.if-count-eq0.false c.in-Ok.ensures.count c.in-Ok.ensures.log
-    (reads_whole so_far (take c.in-Ok.count c.receive.new.buf) c.loop-count.reader c.feed.new.self c.in-Ok-feed.progress.used reply.0 c.loop-count.invariant.2 c.in-Ok-feed.ensures.leads (c.in-Ok-feed.ensures.done.0 c.if-progress.true) reply.1)
+    (reads_whole so_far (take c.in-Ok.count c.receive.new.buf) c.loop-count.reader c.feed.new.self c.in-Ok-feed.progress.used reply.0 c.loop-count.invariant.2 c.in-Ok-feed.ensures.leads reply.1)
     reply.2)
 
 pub loop-count-preserved : goal.loop-count-preserved
@@ -41,6 +44,7 @@ loop-count-preserved g c =
           (hears_short _ _ so_far c.receive.new.buf 4096 c.in-Ok.count refl c.if-count-eq0.false c.in-Ok.ensures.count c.in-Ok.ensures.log
           (reads_short so_far piece c.loop-count.reader c.feed.new.self c.in-Ok-feed.progress.used c.loop-count.invariant.2 c.in-Ok-feed.ensures.leads all.0 all.2)),
       reads_on so_far piece c.loop-count.reader c.feed.new.self c.in-Ok-feed.progress.used c.loop-count.invariant.2 c.in-Ok-feed.ensures.leads all.0,
+      all.1,
     )
 
 pub returns-in-Err : goal.returns-in-Err
