@@ -1,4 +1,10 @@
 pub mod CleanLemmas
+pub mod CompleteLemmas
 pub mod GrammarLemmas
+pub mod KindLemmas
+pub mod ListLemmas
 pub mod QuoteLemmas
+pub mod ReaderLemmas
 pub mod ReadingLemmas
+pub mod RestLemmas
+pub mod SoundLemmas

@@ -1,8 +1,14 @@
 pub mod Algorithm
 pub mod Carried
+pub mod Chosen
 pub mod Clean
 pub mod Digest
 pub mod Digits
+pub mod Elements
 pub mod Field
 pub mod Grammar
+pub mod Info
+pub mod Kind
 pub mod Quoted
+pub mod Reading
+pub mod Scan

@@ -2,9 +2,11 @@ ghost use Rattle.std.specs.Prelude.{◌≡◌, ℕ, List, codes};
 ghost use Rattle.dav_text.specs.declared.method.Method.{Method};
 ghost use Rattle.dav_auth.specs.Carried.{carried, AreSayable};
 ghost use Rattle.dav_auth.specs.Digest.{digest};
+ghost use Rattle.dav_auth.specs.Elements.{Challenges};
 ghost use Rattle.dav_auth.specs.Field.{authorization_text};
 ghost use Rattle.dav_auth.specs.Grammar.{Credentials, Parameter, Parameters};
 ghost use Rattle.dav_auth.specs.declared.challenge.Challenge.{Challenge};
+ghost use Rattle.dav_auth.specs.declared.piece.Piece.{Piece};
 ghost use Rattle.dav_auth.specs.declared.secret.Secret.{Secret};
 ghost use Rattle.dav_auth.specs.Quoted.{escape, unescape};
 
@@ -26,4 +28,9 @@ pub fn value_carries()
 /// A law: a text is one list of parameters at most.
 pub fn one_reading()
     ensures { (text : List ℕ) (one other : List Parameter) → Parameters one text → Parameters other text → one ≡ other }
+{}
+
+/// A law: a text is one list of challenges at most.
+pub fn one_list()
+    ensures { (text : List ℕ) (one other : List Piece) → Challenges one text → Challenges other text → one ≡ other }
 {}

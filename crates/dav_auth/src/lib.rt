@@ -3,21 +3,30 @@
 
 mod algorithm;
 mod challenge;
+mod choice;
 mod clean;
 mod digits;
+mod fault;
 mod field;
 mod formulas;
 mod hashes;
+mod info;
+mod kind;
 mod laws;
+mod piece;
+mod place;
 mod put;
+mod reader;
 mod secret;
 
 pub use algorithm::{Algorithm, Qop};
 pub use challenge::Challenge;
 pub use digits::proved;
+pub use fault::AuthFault;
 pub use field::authorization;
 pub use formulas::{answer, rspauth};
-pub use laws::{one_reading, quotes_undone, value_carries};
+pub use info::rspauth_of;
+pub use laws::{one_list, one_reading, quotes_undone, value_carries};
 pub use secret::Secret;
 
 #[cfg(test)]
