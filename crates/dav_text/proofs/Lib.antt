@@ -1,1 +1,4 @@
 pub mod PathLemmas
+pub mod ReadLemmas
+pub mod RoundTrip
+pub mod TagLemmas

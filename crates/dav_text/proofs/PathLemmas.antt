@@ -15,7 +15,7 @@ use Rattle.percent_encoding.specs.AsciiSet.{should_percent_encode}
 use Rattle.percent_encoding.specs.Percent.{IsKept, percent_encode, percent_encode_byte}
 use Rattle.percent_encoding.proofs.PercentLemmas.{percent_encode-nil, percent_encode-append, percent_encode_escaped, percent_encode_kept, percent_encode_unchanged, IsAscii-percent_encode}
 use Rattle.dav_text.specs.declared.sets.TheConstants.{ESCAPED}
-use Rattle.dav_text.specs.Path.{PathParts, IsName, IsEarlyPath, is_name, one_segment, path_of, is_unreserved, escaped_segments, escaped_parts, escaped, BeginsWith}
+use Rattle.dav_text.specs.Path.{PathParts, is_unreserved, escaped_segments, escaped_parts, escaped, BeginsWith}
 
 -- what begins with a list begins with the list's front
 pub BeginsWith-front : (old more new : List ℕ) → BeginsWith (old ++ more) new → BeginsWith old new
@@ -87,55 +87,6 @@ escapes-unless-unreserved b =
       | inr beyond ↦ grind (arith, nat_tests)
     ]
 
-not_or_true : (a w x y z : Bool) → a ≡ true → not (a || w || x || y || z) ≡ false
-not_or_true true w x y z e = refl
-not_or_true false w x y z e = cc
-
--- a letter or a digit stands for itself
-kept-alphanumeric : (b : ℕ) → is_ascii_alphanumeric b ≡ true → should_percent_encode ESCAPED b ≡ false
-kept-alphanumeric b letter = escapes-unless-unreserved b ∙ not_or_true (is_ascii_alphanumeric b) _ _ _ _ letter
-
--- a name stands for itself
-pub percent_encode-name : (name : List ℕ) → IsName name → percent_encode ESCAPED name ≡ name
-percent_encode-name name named =
-    percent_encode_unchanged ESCAPED name (All-weaker (λ b. is_ascii_alphanumeric b ≡ true) (IsKept ESCAPED) kept-alphanumeric name named.2)
-
-IsName-from_is_name : (name : List ℕ) → is_name name ≡ true → IsName name
-IsName-from_is_name name test =
-    let parts = and_parts (leb 1 (length name) && leb (length name) 64) (list_all is_ascii_alphanumeric name) test in
-    let sizes = and_parts (leb 1 (length name)) (leb (length name) 64) parts.0 in
-    (leb-true 1 (length name) sizes.0, leb-true (length name) 64 sizes.1, AllPass-from_list_all is_ascii_alphanumeric name parts.1)
-
-is_name-from_IsName : (name : List ℕ) → IsName name → is_name name ≡ true
-is_name-from_IsName name named =
-    and_from _ _ (and_from _ _ (le-leb 1 (length name) named.0) (le-leb (length name) 64 named.1)) (list_all-from_AllPass is_ascii_alphanumeric name named.2)
-
--- a text is a path only if it is a slash and a name
-pub IsEarlyPath-from_path_of : (text : List ℕ) (path : PathParts) → path_of text ≡ Some path → (name : List ℕ) × IsEarlyPath text name × (path ≡ one_segment name)
-IsEarlyPath-from_path_of [] path found = cc
-IsEarlyPath-from_path_of (first ∷ name) path found =
-    elim (cases_Bool (eqb first 47 && is_name name)) [
-      | inl passed ↦
-          let parts = and_parts (eqb first 47) (is_name name) passed in
-          let only : Some (one_segment name) ≡ Some path = sym (cond-true _ _ _ passed) ∙ found in
-          (name, record { rooted = ap (λ b. b ∷ name) (eqb-true first 47 parts.0); named = IsName-from_is_name name parts.1 }, cc)
-      | inr failed ↦
-          let none : None ≡ Some path = sym (cond-false _ _ _ failed) ∙ found in
-          cc
-    ]
-
--- a slash and a name are a path
-pub path_of-IsEarlyPath : (text name : List ℕ) → IsEarlyPath text name → path_of text ≡ Some (one_segment name)
-path_of-IsEarlyPath text name early =
-    ap path_of early.rooted ∙ cond-true (eqb 47 47 && is_name name) _ _ (and_from _ _ (eq-eqb 47 47 refl) (is_name-from_IsName name early.named))
-
--- a path that was read is written as it was read
-pub escaped-path_of : (text : List ℕ) (path : PathParts) → path_of text ≡ Some path → escaped path ≡ text
-escaped-path_of text path found =
-    let early = IsEarlyPath-from_path_of text path found in
-    let name = early.0 in
-    ap escaped early.2 ∙ append-nil (escaped_segments (name ∷ [])) ∙ append-nil (47 ∷ percent_encode ESCAPED name) ∙ ap (λ x. 47 ∷ x) (percent_encode-name name early.1.named) ∙ sym early.1.rooted
-
 IsAscii-escaped_segments : (segments : List (List ℕ)) → IsAscii (escaped_segments segments)
 IsAscii-escaped_segments [] = IsAscii-nil
 IsAscii-escaped_segments (segment ∷ segments) =
@@ -151,7 +102,3 @@ IsAscii-escaped_parts (segment ∷ segments) false =
 -- the text of any path is ASCII
 pub IsAscii-escaped : (path : PathParts) → IsAscii (escaped path)
 IsAscii-escaped path = IsAscii-escaped_parts path.segments path.slash
-
--- a text that is a path is ASCII
-pub IsAscii-path_of : (text : List ℕ) (path : PathParts) → path_of text ≡ Some path → IsAscii text
-IsAscii-path_of text path found = subst IsAscii (escaped-path_of text path found) (IsAscii-escaped path)

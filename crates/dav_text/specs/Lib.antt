@@ -1,2 +1,5 @@
+pub mod Escape
 pub mod Method
 pub mod Path
+pub mod Reading
+pub mod Tag

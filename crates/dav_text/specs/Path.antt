@@ -1,7 +1,8 @@
--- Paths of a server: their parts, and their text in a request.
-use Rattle.std.specs.Prelude.{◌≡◌, ℕ, ◌≤◌, Bool, false, ◌&&◌, ◌||◌, ◌==◌, nat_le, List, [], ◌∷◌, ◌++◌, length, take, Option, Some, None, if◌then◌else◌}
-use Rattle.std.specs.List.{list_all, AllPass}
+-- Paths of a server: their parts, how two of them stand to each other, and their text in a request.
+use Rattle.std.specs.Prelude.{◌≡◌, ◌≢◌, ℕ, ◌≤◌, Bool, true, not, ◌||◌, ◌==◌, bytes_eq, List, [], ◌∷◌, ◌++◌, length, take, if◌then◌else◌}
+use Rattle.std.specs.List.{AllByRecursion}
 use Rattle.std.specs.Char.{is_ascii_alphanumeric}
+use Rattle.std.specs.Str.{IsUtf8}
 use Rattle.percent_encoding.specs.Percent.{percent_encode}
 use Rattle.dav_text.specs.declared.sets.TheConstants.{ESCAPED}
 
@@ -9,28 +10,6 @@ use Rattle.dav_text.specs.declared.sets.TheConstants.{ESCAPED}
 pub record PathParts : Type 0 where
   pub segments : List (List ℕ)
   pub slash : Bool
-
--- 1 to 64 ASCII letters and digits
-abbrev pub IsName : List ℕ → Type 0
-IsName name = (1 ≤ length name) × (length name ≤ 64) × AllPass is_ascii_alphanumeric name
-
--- the text of a path of one segment: a slash and this name
-pub record IsEarlyPath (text name : List ℕ) : Type 0 where
-  pub rooted : text ≡ 47 ∷ name
-  pub named : IsName name
-
--- `IsName` as a test
-abbrev pub is_name : List ℕ → Bool
-is_name name = nat_le 1 (length name) && nat_le (length name) 64 && list_all is_ascii_alphanumeric name
-
--- the path of one segment, with no slash at its end
-abbrev pub one_segment : List ℕ → PathParts
-one_segment name = record { segments = name ∷ []; slash = false }
-
--- the path that a text is, if it is one
-abbrev pub path_of : List ℕ → Option PathParts
-path_of [] = None
-path_of (first ∷ name) = if first == 47 && is_name name then Some (one_segment name) else None
 
 -- a byte that stands for itself in a URI: RFC 3986 section 2.3
 abbrev pub is_unreserved : ℕ → Bool
@@ -50,6 +29,51 @@ escaped_parts (segment ∷ segments) slash =
 -- the text of a path in a request: RFC 3986 sections 2.1 and 3.3
 abbrev pub escaped : PathParts → List ℕ
 escaped path = escaped_parts path.segments path.slash
+
+-- an empty segment, or a dot, which stand for the place where they are
+abbrev pub is_here : List ℕ → Bool
+is_here segment = bytes_eq segment [] || bytes_eq segment (46 ∷ [])
+
+-- two dots, which stand for the place above
+abbrev pub is_up : List ℕ → Bool
+is_up segment = bytes_eq segment (46 ∷ 46 ∷ [])
+
+-- a segment that a path can have: text that is not empty, and neither a dot nor two
+pub record IsSegment (segment : List ℕ) : Type 0 where
+  pub utf8 : IsUtf8 segment
+  pub not_here : segment ≢ []
+  pub not_dot : segment ≢ 46 ∷ []
+  pub not_up : segment ≢ 46 ∷ 46 ∷ []
+
+-- what every path that was read holds to: its segments are segments, one without a segment has the
+-- slash, and its text in a request has at most 1,024 bytes
+pub record IsPath (path : PathParts) : Type 0 where
+  pub segments : AllByRecursion IsSegment path.segments
+  pub top : path.segments ≡ [] → path.slash ≡ true
+  pub short : length (escaped path) ≤ 1024
+
+-- the same segments, whether or not a slash stands behind them
+abbrev pub IsSame : PathParts → PathParts → Type 0
+IsSame path other = path.segments ≡ other.segments
+
+-- the first list is the second and at least one segment more
+pub record IsLonger (segments top : List (List ℕ)) : Type 0 where
+  pub rest : List (List ℕ)
+  pub split : segments ≡ top ++ rest
+  pub some : rest ≢ []
+
+-- the path stands strictly below the top
+abbrev pub IsUnder : PathParts → PathParts → Type 0
+IsUnder path top = IsLonger path.segments top.segments
+
+-- the first list is the second and one segment more
+pub record IsLongerByOne (segments above : List (List ℕ)) : Type 0 where
+  pub name : List ℕ
+  pub split : segments ≡ above ++ name ∷ []
+
+-- the other path stands right below the parent
+abbrev pub IsParent : PathParts → PathParts → Type 0
+IsParent parent other = IsLongerByOne other.segments parent.segments
 
 -- the new list begins with the old one
 abbrev pub BeginsWith : List ℕ → List ℕ → Type 0

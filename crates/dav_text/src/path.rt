@@ -1,8 +1,6 @@
-ghost use Rattle.std.specs.Prelude.{◌≡◌, ℕ, ◌↔◌, ◌∷◌, ◌++◌, [], Some, None, OnOk, OnErr, IfOk, MatchOption, IsErrOf, IsTrue};
-ghost use Rattle.std.specs.List.{list_all};
-ghost use Rattle.std.specs.Char.{is_ascii_alphanumeric};
+ghost use Rattle.std.specs.Prelude.{◌≡◌, ◌↔◌, ◌++◌, OnOk, OnErr, IfOk, IsTrue};
 ghost use Rattle.percent_encoding.specs.Percent.{percent_encode};
-ghost use Rattle.dav_text.specs.Path.{PathParts, is_name, one_segment, path_of, escaped, escaped_parts, escaped_segments, BeginsWith};
+ghost use Rattle.dav_text.specs.Path.{PathParts, IsSame, IsUnder, IsParent, IsLonger, IsLongerByOne, escaped, escaped_parts, escaped_segments, BeginsWith};
 ghost use Rattle.dav_text.specs.declared.sets.TheConstants.{ESCAPED};
 
 use crate::memory::Memory;
@@ -10,49 +8,13 @@ use crate::sets::ESCAPED;
 use crate::text::Text;
 use percent_encoding::percent_encode_byte;
 use std::alloc::Global;
-use std::error::Error;
-use std::fmt;
 use std::marker::Model;
-
-// How many characters the one segment of a path may have.
-const NAME_MAX: usize = 64;
-
-/// Why a text is no path.
-#[derive(Clone, Copy, Debug, PartialEq, Eq)]
-pub enum PathFault {
-    /// A form of path that is not read yet.
-    Early,
-    /// Want of memory.
-    Memory,
-}
-
-impl fmt::Display for PathFault {
-    fn fmt<W: fmt::Write>(&self, f: &mut fmt::Formatter<W>) -> fmt::Result {
-        f.write_str(match self {
-            PathFault::Early => "such a path is not read yet",
-            PathFault::Memory => "out of memory",
-        })
-    }
-}
-
-impl Error for PathFault {}
-
-impl From<Memory> for PathFault {
-    ghost use Rattle.std.specs.Prelude.{◌≡◌};
-    ghost use Rattle.dav_text.specs.declared.path.PathFault.TheVariants as fault;
-
-    ghost from_gives = { λ _ e. e ≡ fault.Memory };
-
-    fn from(_memory: Memory) -> PathFault {
-        PathFault::Memory
-    }
-}
 
 /// A path on a server: its decoded segments, and whether it ends with a slash.
 #[derive(Debug, Drop)]
 pub struct Path {
-    segments: Vec<Text>,
-    slash: bool,
+    pub(crate) segments: Vec<Text>,
+    pub(crate) slash: bool,
 }
 
 impl Model for Path {
@@ -62,22 +24,25 @@ impl Model for Path {
 }
 
 impl Path {
-    /// Reads a path. So far only `/` and 1 to 64 ASCII letters and digits are one.
-    pub fn read(alloc: Global, text: &str) -> Result<Path, PathFault>
-        ensures ok { IfOk result (λ p. path_of text.now ≡ Some p) }
-        ensures early { IsErrOf result PathFault.Early ↔ (path_of text.now ≡ None) }
-    {
-        match name_of(text) {
-            Some(name) => Ok(one_segment(alloc, name)?),
-            None => Err(PathFault::Early),
-        }
-    }
-
     /// Whether both have the same segments. A slash at the end does not count.
     pub fn same(&self, other: &Path) -> bool
-        ensures { IsTrue result ↔ (self.now.segments ≡ other.now.segments) }
+        ensures { IsTrue result ↔ IsSame self.now other.now }
     {
         same_segments(self.segments.as_slice(), other.segments.as_slice())
+    }
+
+    /// Whether the path stands strictly below the top.
+    pub fn is_under(&self, top: &Path) -> bool
+        ensures { IsTrue result ↔ IsUnder self.now top.now }
+    {
+        is_longer(self.segments.as_slice(), top.segments.as_slice())
+    }
+
+    /// Whether the other path stands right below this one.
+    pub fn is_parent_of(&self, other: &Path) -> bool
+        ensures { IsTrue result ↔ IsParent self.now other.now }
+    {
+        is_longer_by_one(other.segments.as_slice(), self.segments.as_slice())
     }
 
     /// Writes the path's text at the end of `out`, as a request has it.
@@ -119,44 +84,6 @@ impl Path {
     }
 }
 
-// The path of one segment.
-fn one_segment(alloc: Global, name: &str) -> Result<Path, Memory>
-    ensures { IfOk result (λ p. p ≡ one_segment name.now) }
-{
-    let segment = Text::copy_of(alloc, name)?;
-    let mut segments = Vec::new(alloc);
-    segments.push(segment)?;
-    Ok(Path {
-        segments,
-        slash: false,
-    })
-}
-
-// The one segment of the path that the text is, if it is one.
-fn name_of(text: &str) -> Option<&str>
-    ensures { MatchOption result (path_of text.now ≡ None)
-        (λ name. path_of text.now ≡ Some (one_segment name.now)) }
-{
-    match text.as_bytes() {
-        [b'/', name @ ..] if is_name(name) => Some(&text[1..]),
-        _ => None,
-    }
-}
-
-// Whether these are 1 to 64 ASCII letters and digits.
-fn is_name(name: &[u8]) -> bool
-    ensures { result ≡ is_name name.now }
-{
-    !name.is_empty() && name.len() <= NAME_MAX && all_alphanumeric(name)
-}
-
-// Whether these are ASCII letters and digits alone.
-fn all_alphanumeric(bytes: &[u8]) -> bool
-    ensures { result ≡ list_all is_ascii_alphanumeric bytes.now }
-{
-    bytes.iter().all(|b| b.is_ascii_alphanumeric())
-}
-
 // Whether both are the same segments.
 fn same_segments(left: &[Text], right: &[Text]) -> bool
     ensures { IsTrue result ↔ (left.now ≡ right.now) }
@@ -170,6 +97,23 @@ fn same_segments(left: &[Text], right: &[Text]) -> bool
         }
     }
     true
+}
+
+// Whether the segments are those of the top, and at least one more.
+fn is_longer(segments: &[Text], top: &[Text]) -> bool
+    ensures { IsTrue result ↔ IsLonger segments.now top.now }
+{
+    top.len() < segments.len() && same_segments(&segments[..top.len()], top)
+}
+
+// Whether the segments are those above, and one more.
+fn is_longer_by_one(segments: &[Text], above: &[Text]) -> bool
+    ensures { IsTrue result ↔ IsLongerByOne segments.now above.now }
+{
+    match segments.split_last() {
+        Some((_, front)) => same_segments(front, above),
+        None => false,
+    }
 }
 
 // The same segments again.

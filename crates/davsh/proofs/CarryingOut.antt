@@ -11,8 +11,6 @@ use Rattle.dav_edge.specs.declared.failed.Failed.{Failed}
 use Rattle.dav_edge.specs.Device.{Answer, Happened, happened, Receive, Gives, DeviceLog, ByteMachine, Grew, received, given, bytes_given, is_failure}
 use Rattle.dav_edge.specs.Whole.{ReachesOn, DoesOn, Sends}
 use Rattle.dav_edge.proofs.Sending.{on_same, on_then}
-use Rattle.dav_text.specs.Path.{PathParts}
-use Rattle.dav_text.proofs.PathLemmas.{IsEarlyPath-from_path_of}
 use Rattle.davsh.specs.declared.pending.Pending.{Pending}
 use Rattle.davsh.specs.declared.stop.Stop.{Stop}
 use Rattle.davsh.specs.declared.stop.Stop.TheVariants.{End, Input, Output}
@@ -44,23 +42,13 @@ line_length : (fed : Bool) (begun : List ℕ) → 65536 < length begun → 65536
 line_length true begun long = let h = without_return_shorter begun in omega arith
 line_length false begun long = omega arith
 
-put_length : (line : List ℕ) (path : PathParts) (bytes : List ℕ) → IsPut line path bytes → length line ≤ 60071
-put_length line path bytes put =
-    let early = IsEarlyPath-from_path_of put.target path put.rooted in
-    let target : length put.target ≡ suc (length early.0) = ap length early.1.rooted in
-    let rest = length-append put.target (32 ∷ bytes) in
-    let whole : length line ≡ length (codes "fput " ++ (put.target ++ 32 ∷ bytes)) = ap length put.spelled in
-    let short = early.1.named.1 in
-    let few = put.argument.few in
-    omega arith
-
 -- a line that is longer than a command can be
 pub long_answered : (before now : State) (fed : Bool) (begun printed : List ℕ) → 65536 < length begun → printed ≡ syntax_line → now ≡ faulted before → Answered before (line_at fed begun) printed now
 long_answered before now fed begun printed long text state =
     let enough = line_length fed begun long in
     Answered.syntax
     (λ none. let h : length (line_at fed begun) ≡ 0 = ap length none in absurd (omega arith))
-    (λ path bytes put. let h = put_length (line_at fed begun) path bytes put in absurd (omega arith))
+    (λ path bytes put. let h = put.short in absurd (omega arith))
     text state
 
 pub whole_answered : (before now : State) (fed : Bool) (begun bytes line printed : List ℕ) → bytes ≡ begun → line ≡ line_at fed bytes → Answered before line printed now → Answered before (line_at fed begun) printed now

@@ -1,12 +1,9 @@
 -- A line that stores something is read in one way.
-use Rattle.std.proofs.Common.{◌≡◌, ◌≢◌, ◌<◌, ◌≤◌, ◌+◌, ℕ, zero, suc, List, [], ◌∷◌, ◌++◌, length, take, drop, get_or, Some, None, true, false, refl, sym, ◌∙◌, ap, subst, arith, codes, add-one}
-use Rattle.std.specs.List.{list_all}
-use Rattle.std.specs.Char.{is_ascii_alphanumeric}
-use Rattle.std.proofs.lemmas.Bool.{and_parts}
-use Rattle.std.proofs.lemmas.List.Sums.{list_all-from_AllPass}
-use Rattle.dav_text.specs.Path.{PathParts, path_of, IsName}
-use Rattle.dav_text.proofs.PathLemmas.{IsEarlyPath-from_path_of}
-use Rattle.davsh.specs.Line.{IsUnbroken, IsFirstBlank, IsArgument, IsPut, IsNoPut, IsSplit}
+use Rattle.std.proofs.Common.{◌≡◌, ◌≢◌, ◌<◌, ◌≤◌, ◌+◌, ℕ, zero, suc, List, [], ◌∷◌, ◌++◌, length, take, drop, get_or, Ok, true, false, refl, sym, ◌∙◌, ap, subst, arith, codes, add-one}
+use Rattle.std.specs.Str.{IsUtf8}
+use Rattle.dav_text.specs.Path.{PathParts}
+use Rattle.dav_text.specs.Reading.{top_path, typed_of}
+use Rattle.davsh.specs.Line.{IsUnbroken, IsFirstBlank, IsArgument, IsFileWord, IsPut, IsNoPut, IsSplit}
 
 -- behind words without a blank the first blank is where they end
 split_unique : (a b c d : List ℕ) → IsUnbroken a → IsUnbroken c → a ++ 32 ∷ b ≡ c ++ 32 ∷ d → (a ≡ c) × (b ≡ d)
@@ -19,36 +16,19 @@ split_unique (x ∷ a) b (y ∷ c) d one two same =
     let rest = split_unique a b c d one.1 two.1 tails in
     (ap (λ (z : ℕ). z ∷ a) heads ∙ ap (λ (l : List ℕ). y ∷ l) rest.0, rest.1)
 
-no_blank : (b : ℕ) → is_ascii_alphanumeric b ≡ true → b ≢ 32
-no_blank b is blank = let h : false ≡ true = ap is_ascii_alphanumeric (sym blank) ∙ is in absurd (cc)
-
-name_unbroken : (name : List ℕ) → list_all is_ascii_alphanumeric name ≡ true → IsUnbroken name
-name_unbroken [] all = tt
-name_unbroken (b ∷ name) all =
-    let parts = and_parts (is_ascii_alphanumeric b) (list_all is_ascii_alphanumeric name) all in
-    (no_blank b parts.0, name_unbroken name parts.1)
-
-rooted_unbroken : (name : List ℕ) → IsName name → IsUnbroken (47 ∷ name)
-rooted_unbroken name named = ((λ blank. absurd (cc)), name_unbroken name (list_all-from_AllPass is_ascii_alphanumeric name named.2))
-
-path_unbroken : (target : List ℕ) (path : PathParts) → path_of target ≡ Some path → IsUnbroken target
-path_unbroken target path is =
-    let early = IsEarlyPath-from_path_of target path is in
-    subst IsUnbroken (sym early.1.rooted) (rooted_unbroken early.0 early.1.named)
-
 -- two readings of a line as a store are one
 pub put_unique : (line : List ℕ) (p q : PathParts) (b c : List ℕ) → IsPut line p b → IsPut line q c → (p ≡ q) × (b ≡ c)
 put_unique line p q b c one two =
     let same : one.target ++ 32 ∷ b ≡ two.target ++ 32 ∷ c = let h = sym one.spelled ∙ two.spelled in cc in
-    let parts = split_unique one.target b two.target c (path_unbroken one.target p one.rooted) (path_unbroken two.target q two.rooted) same in
-    ((let h : Some p ≡ Some q = sym one.rooted ∙ ap path_of parts.0 ∙ two.rooted in cc), parts.1)
+    let parts = split_unique one.target b two.target c one.unbroken two.unbroken same in
+    ((let h : Ok p ≡ Ok q = sym one.word.typed ∙ ap (typed_of top_path) parts.0 ∙ two.word.typed in cc), parts.1)
 
--- a split line whose word is no path is no store
-pub split_no_path : (line target bytes : List ℕ) → IsSplit line target bytes → path_of target ≡ None → IsNoPut line
+-- a split line whose word names no file is no store
+pub split_no_path : (line target bytes : List ℕ) → IsSplit line target bytes → ((path : PathParts) → IsFileWord target path → ⊥) → IsNoPut line
 split_no_path line target bytes split none path b put =
     let same : target ++ 32 ∷ bytes ≡ put.target ++ 32 ∷ b = let h = sym split.spelled ∙ put.spelled in cc in
-    let parts = split_unique target bytes put.target b split.unbroken (path_unbroken put.target path put.rooted) same in
-    let h : None ≡ Some path = sym none ∙ ap path_of parts.0 ∙ put.rooted in absurd (cc)
+    let parts = split_unique target bytes put.target b split.unbroken put.unbroken same in
+    none path (subst (λ (word : List ℕ). IsFileWord word path) (sym parts.0) put.word)
 
 has_blank : (target bytes : List ℕ) → IsUnbroken (target ++ 32 ∷ bytes) → ⊥
 has_blank [] bytes all = all.0 refl
@@ -86,16 +66,16 @@ pub blank_no_argument : (line words : List ℕ) (at : ℕ) → line ≡ codes "f
 blank_no_argument line words at is first bad path b put =
     let split = blank_split line words at is first in
     let same : take at words ++ 32 ∷ drop (at + 1) words ≡ put.target ++ 32 ∷ b = let h = sym split.0 ∙ put.spelled in cc in
-    let parts = split_unique (take at words) (drop (at + 1) words) put.target b split.1 (path_unbroken put.target path put.rooted) same in
+    let parts = split_unique (take at words) (drop (at + 1) words) put.target b split.1 put.unbroken same in
     bad (subst IsArgument (sym parts.1) put.argument)
 
--- nor where what stands before it is no path
-pub blank_no_path : (line words : List ℕ) (at : ℕ) → line ≡ codes "fput " ++ words → IsFirstBlank words at → ((path : PathParts) → path_of (take at words) ≡ Some path → ⊥) → IsNoPut line
+-- nor where what stands before it is no text
+pub blank_no_path : (line words : List ℕ) (at : ℕ) → line ≡ codes "fput " ++ words → IsFirstBlank words at → (IsUtf8 (take at words) → ⊥) → IsNoPut line
 blank_no_path line words at is first bad path b put =
     let split = blank_split line words at is first in
     let same : take at words ++ 32 ∷ drop (at + 1) words ≡ put.target ++ 32 ∷ b = let h = sym split.0 ∙ put.spelled in cc in
-    let parts = split_unique (take at words) (drop (at + 1) words) put.target b split.1 (path_unbroken put.target path put.rooted) same in
-    bad path (ap path_of parts.0 ∙ put.rooted)
+    let parts = split_unique (take at words) (drop (at + 1) words) put.target b split.1 put.unbroken same in
+    bad (subst IsUtf8 (sym parts.0) put.word.utf8)
 
 -- the first word and what stands behind the blank after it
 pub split_found : (line words target bytes : List ℕ) (at : ℕ) → line ≡ codes "fput " ++ words → IsFirstBlank words at → target ≡ take at words → bytes ≡ drop (at + 1) words

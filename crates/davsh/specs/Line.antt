@@ -1,6 +1,9 @@
 -- The lines of the input, and what one of them asks for.
-use Rattle.std.specs.Prelude.{◌≡◌, ◌≢◌, ◌<◌, ◌≤◌, ◌==◌, ℕ, slice_index, List, [], ◌∷◌, ◌++◌, length, All, codes, Some, if◌then◌else◌}
-use Rattle.dav_text.specs.Path.{PathParts, path_of}
+use Rattle.std.specs.Prelude.{◌≡◌, ◌≢◌, ◌<◌, ◌≤◌, ◌==◌, ◌||◌, not, false, true, ℕ, Bool, slice_index, List, [], ◌∷◌, ◌++◌, length, All, codes, Ok, if◌then◌else◌}
+use Rattle.std.specs.List.{list_all}
+use Rattle.std.specs.Str.{IsUtf8}
+use Rattle.dav_text.specs.Path.{PathParts}
+use Rattle.dav_text.specs.Reading.{top_path, typed_of}
 
 -- a line without one carriage return at its end
 abbrev pub without_return : List ℕ → List ℕ
@@ -30,20 +33,33 @@ pub record IsArgument (bytes : List ℕ) : Type 0 where
   pub few : length bytes ≤ 60000
   pub plain : All IsPlain bytes
 
--- the line stores these bytes under this path
-pub record IsPut (line : List ℕ) (path : PathParts) (bytes : List ℕ) : Type 0 where
-  pub target : List ℕ
-  pub spelled : line ≡ codes "fput " ++ (target ++ 32 ∷ bytes)
-  pub rooted : path_of target ≡ Some path
-  pub argument : IsArgument bytes
-
-abbrev pub IsNoPut : List ℕ → Type 0
-IsNoPut line = (path : PathParts) (bytes : List ℕ) → ¬ (IsPut line path bytes)
-
 -- no blank is among the bytes
 abbrev pub IsUnbroken : List ℕ → Type 0
 IsUnbroken [] = Unit {0}
 IsUnbroken (b ∷ bytes) = (b ≢ 32) × IsUnbroken bytes
+
+-- neither a tab nor a double quote is among the bytes
+abbrev pub is_bare : List ℕ → Bool
+is_bare bytes = list_all (λ b. not (b == 9 || b == 34)) bytes
+
+-- the word is this path as it is typed, and can name a file: no slash, `.` or `..` ends it
+pub record IsFileWord (word : List ℕ) (path : PathParts) : Type 0 where
+  pub utf8 : IsUtf8 word
+  pub bare : is_bare word ≡ true
+  pub typed : typed_of top_path word ≡ Ok path
+  pub file : path.slash ≡ false
+
+-- the line stores these bytes under this path
+pub record IsPut (line : List ℕ) (path : PathParts) (bytes : List ℕ) : Type 0 where
+  pub target : List ℕ
+  pub spelled : line ≡ codes "fput " ++ (target ++ 32 ∷ bytes)
+  pub unbroken : IsUnbroken target
+  pub word : IsFileWord target path
+  pub argument : IsArgument bytes
+  pub short : length line < 65536
+
+abbrev pub IsNoPut : List ℕ → Type 0
+IsNoPut line = (path : PathParts) (bytes : List ℕ) → ¬ (IsPut line path bytes)
 
 -- the first blank of some bytes
 pub record IsFirstBlank (bytes : List ℕ) (at : ℕ) : Type 0 where

@@ -1,9 +1,14 @@
 ghost use Rattle.std.specs.Prelude.{IfOk, MatchOption, IsTrue, ◌↔◌};
-ghost use Rattle.davsh.specs.Line.{IsPut, IsNoPut, IsArgument, IsPlain, IsUnbroken, IsFirstBlank, IsSplit};
+ghost use Rattle.std.specs.Prelude.{◌≡◌};
+ghost use Rattle.dav_text.specs.Path.{PathParts};
+ghost use Rattle.davsh.specs.Line.{IsPut, IsNoPut, IsFileWord, IsArgument, IsPlain, IsUnbroken, IsFirstBlank, IsSplit, is_bare};
 
 use dav_text::{Blob, Memory, Path, PathFault};
 use std::alloc::Global;
 use std::str;
+
+// How many bytes of a line are too many for a command.
+const LINE_MAX: usize = 65_536;
 
 /// A store that a line asks for.
 #[derive(Drop)]
@@ -12,22 +17,48 @@ pub struct Put {
     pub bytes: Blob,
 }
 
-/// The store that the line asks for, where it is `fput`, a path and printable characters.
+/// The store that the line asks for, where it is `fput`, a path of a file and printable characters.
 pub fn read_put(alloc: Global, line: &[u8]) -> Result<Option<Put>, Memory>
     ensures { IfOk result (λ put. MatchOption put (IsNoPut line.now) (λ p. IsPut line.now p.path p.bytes)) }
 {
+    if line.len() >= LINE_MAX {
+        return Ok(None);
+    }
     let Some((target, bytes)) = put_words(line) else {
         return Ok(None);
     };
-    let path = match Path::read(alloc, target) {
-        Ok(path) => path,
-        Err(PathFault::Early) => return Ok(None),
-        Err(PathFault::Memory) => return Err(Memory),
+    let Some(path) = file_word(alloc, target)? else {
+        return Ok(None);
     };
     let Ok(bytes) = Blob::copy_of(alloc, bytes) else {
         return Err(Memory);
     };
     Ok(Some(Put { path, bytes }))
+}
+
+/// The path of a file that the word is, if it is one.
+fn file_word(alloc: Global, word: &str) -> Result<Option<Path>, Memory>
+    ensures { IfOk result (λ path. MatchOption path ((p : PathParts) → ¬ (IsFileWord word.now p)) (IsFileWord word.now)) }
+{
+    if !is_bare(word.as_bytes()) {
+        return Ok(None);
+    }
+    match Path::typed(alloc, &Path::top(alloc), word) {
+        Ok(path) if !path.has_slash() => Ok(Some(path)),
+        Ok(_) => Ok(None),
+        Err(PathFault::NotRooted) => Ok(None),
+        Err(PathFault::BadEscape { .. }) => Ok(None),
+        Err(PathFault::NotText { .. }) => Ok(None),
+        Err(PathFault::TooLong { .. }) => Ok(None),
+        Err(PathFault::Memory) => Err(Memory),
+    }
+}
+
+/// Whether neither a tab nor a double quote is among the bytes.
+fn is_bare(bytes: &[u8]) -> bool
+    ensures { result ≡ is_bare bytes.now }
+{
+    bytes.iter().all(|b| !(*b == b'\t' || *b == b'"'))
 }
 
 /// The two words after `fput`, where the second is one that can be stored.

@@ -198,7 +198,7 @@ fn what_the_server_refused_is_lost(rt: HostRuntime) -> Result<(), Fail> {
 #[test]
 fn each_line_answers_by_itself(rt: HostRuntime) -> Result<(), Fail> {
     let alloc = rt.alloc();
-    let cases: [(&[u8], &[u8], Status); 9] = [
+    let cases: [(&[u8], &[u8], Status); 17] = [
         (b"", b"", Status::Done),
         (b"\n\r\n\n", b"", Status::Done),
         (
@@ -221,6 +221,35 @@ fn each_line_answers_by_itself(rt: HostRuntime) -> Result<(), Fail> {
         ),
         (
             b"fput /a \"x\"\n",
+            b"fault: syntax early 0\n",
+            Status::Faults,
+        ),
+        // A word is a path as it is typed, and names a file.
+        (
+            b"fput a/./b//c x\n",
+            b"closed /a/b/c 1\nleft: queued 1 lost 0\n",
+            Status::Done,
+        ),
+        (
+            b"fput /a/../b%20\xc3\xa9 x\n",
+            b"closed /b%2520%C3%A9 1\nleft: queued 1 lost 0\n",
+            Status::Done,
+        ),
+        (b"fput /a/ x\n", b"fault: syntax early 0\n", Status::Faults),
+        (
+            b"fput /a/.. x\n",
+            b"fault: syntax early 0\n",
+            Status::Faults,
+        ),
+        (b"fput . x\n", b"fault: syntax early 0\n", Status::Faults),
+        (b"fput  x\n", b"fault: syntax early 0\n", Status::Faults),
+        (
+            b"fput /a\tb x\n",
+            b"fault: syntax early 0\n",
+            Status::Faults,
+        ),
+        (
+            b"fput /a\"b x\n",
             b"fault: syntax early 0\n",
             Status::Faults,
         ),

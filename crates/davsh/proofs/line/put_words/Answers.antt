@@ -3,8 +3,6 @@ use Rattle.std.proofs.lemmas.Bool.{false≢true}
 use Rattle.std.proofs.lemmas.Bool.Decides.{Decides-eqb}
 use Rattle.std.proofs.lemmas.List.{take_rest}
 use Rattle.std.proofs.lemmas.Slice.Eq.{strip_prefix_is}
-use Rattle.std.proofs.lemmas.Str.{IsUtf8-from_ascii}
-use Rattle.dav_text.proofs.PathLemmas.{IsAscii-path_of}
 use Rattle.davsh.specs.Line.{IsArgument}
 use Rattle.davsh.proofs.PutLines.{unbroken_no_put, blank_no_argument, blank_no_path, split_found}
 use Rattle.davsh.proofs.line.put_words.Goals as goal
@@ -36,4 +34,4 @@ returns-in-Err c =
     let is = strip_prefix_is Decides-eqb c.args.line.now (codes "fput ") (Some words) c.in-Some.ensures.cases in
     let at = c.in-Some-first_blank.blank in
     blank_no_path c.args.line.now words.now at is c.in-Some-first_blank.ensures
-    (λ path is. c.in-Err.ensures.cases.0 (IsUtf8-from_ascii _ (IsAscii-path_of (take at words.now) path is)))
+    (λ text. c.in-Err.ensures.cases.0 text)

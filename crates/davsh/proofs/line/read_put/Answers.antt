@@ -1,6 +1,5 @@
-use Rattle.std.proofs.Common.{Err, ap}
 use Rattle.davsh.proofs.PutLines.{split_no_path}
 use Rattle.davsh.proofs.line.read_put.Goals as goal
 
-pub returns-in-Err-Early : goal.returns-in-Err-Early
-returns-in-Err-Early c = split_no_path _ _ _ c.in-Some.ensures (c.in-Err-Early.ensures.early.0 (ap Err c.in-Err-Early.field-0-is))
+pub returns-in_default-2 : goal.returns-in_default-2
+returns-in_default-2 c = split_no_path c.args.line.now c.in-Some.target.now c.in-Some.bytes.now c.in-Some.ensures (rw c.in_default-2.is at c.in_ok-path.ensures)
