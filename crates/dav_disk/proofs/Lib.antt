@@ -1,0 +1,4 @@
+pub mod Outcomes
+pub mod Stretch
+pub mod Recording
+pub mod Imaging

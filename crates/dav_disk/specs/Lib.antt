@@ -1,0 +1,4 @@
+pub mod Disk
+pub mod Record
+pub mod View
+pub mod Image

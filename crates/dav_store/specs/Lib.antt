@@ -1,0 +1,7 @@
+pub mod Rows
+pub mod Start
+pub mod Cause
+pub mod Body
+pub mod Starting
+pub mod View
+pub mod Found

@@ -1,0 +1,90 @@
+ghost use Rattle.std.specs.Prelude.{◌≡◌, ◌≢◌, ◌+◌, [], take, OnOk, IfOk, IfErr};
+ghost use Rattle.sha2.specs.Sha256.{sha256};
+ghost use Rattle.dav_disk.specs.Disk.{Touches, OthersStay, AllStay, settled};
+ghost use Rattle.dav_store.specs.Body.{id_of, IsDamage};
+ghost use Rattle.dav_store.specs.Cause.{IsCaused, OnlyDisk};
+ghost use Rattle.dav_store.specs.declared.fault.StoreFault.TheVariants.{Memory as MemoryFault};
+
+use crate::body_id::sum_of;
+use crate::{BodyId, StoreFault};
+use dav_disk::Disk;
+use dav_text::Blob;
+use std::alloc::Global;
+
+/// The bodies, each in a file of its own.
+#[derive(Drop)]
+pub struct Bodies {
+    alloc: Global,
+}
+
+impl Bodies {
+    /// The bodies of any disk. Takes no memory.
+    pub fn new(alloc: Global) -> Bodies {
+        Bodies { alloc }
+    }
+
+    /// Puts these bytes into a file, in place of what it holds. After `Ok` each stop leaves them, until that file is
+    /// changed again. Takes no memory, and answers `Disk` alone.
+    pub fn keep<D: Disk>(
+        &mut self,
+        disk: &mut D,
+        file: u32,
+        bytes: &[u8],
+    ) -> Result<BodyId, StoreFault>
+        ensures id { IfOk result (λ id. id ≡ id_of file bytes.now) }
+        ensures kept { D.honest → OnOk result (D.past disk.new (D.moment disk.new) file ≡ settled bytes.now) }
+        ensures seen { D.honest → OnOk result (D.seen disk.new file ≡ bytes.now) }
+        ensures touches { D.honest → Touches (λ f. f ≡ file) (D.moment disk.old) (D.moment disk.new) (D.past disk.old) (D.past disk.new) }
+        ensures others { D.honest → OthersStay file (D.seen disk.old) (D.seen disk.new) }
+        ensures counts { OnOk result (D.moment disk.new ≡ D.moment disk.old + 3) }
+        ensures only { OnlyDisk result }
+        ensures cause { IsCaused (D.faults disk.old) (D.faults disk.new) result }
+    {
+        disk.cut(file, 0)?;
+        disk.write_at(file, 0, bytes)?;
+        disk.sync(file)?;
+        Ok(BodyId::of(file, bytes))
+    }
+
+    /// The bytes of a body: the first `len` of its file, or fewer where the file is shorter. Answers `Damaged` where
+    /// their SHA-256 is not the body's, and `Memory` only before the first device call.
+    pub fn fetch<D: Disk>(&mut self, disk: &mut D, id: &BodyId) -> Result<Blob, StoreFault>
+        ensures bytes { D.honest → IfOk result (λ blob. blob ≡ take id.now.len (D.seen disk.old id.now.file)) }
+        ensures sum { IfOk result (λ blob. sha256 blob ≡ id.now.sum) }
+        ensures damaged { D.honest → IfErr result (λ e. IsDamage id.now (take id.now.len (D.seen disk.old id.now.file)) e) }
+        ensures starved { IfErr result (λ e. e ≡ MemoryFault → disk.new ≡ disk.old) }
+        ensures touches { D.honest → Touches (λ _. ⊥) (D.moment disk.old) (D.moment disk.new) (D.past disk.old) (D.past disk.new) }
+        ensures seen { D.honest → AllStay (D.seen disk.old) (D.seen disk.new) }
+        ensures counts { OnOk result (D.moment disk.new ≡ D.moment disk.old + 1) }
+        ensures cause { IsCaused (D.faults disk.old) (D.faults disk.new) result }
+    {
+        let mut bytes = Vec::from_elem(self.alloc, 0u8, id.len as usize)?;
+        let count = disk.read(id.file, 0, bytes.as_mut_slice())?;
+        bytes.truncate(count);
+        let found = sum_of(bytes.as_slice());
+        if found != id.sum {
+            return Err(StoreFault::Damaged {
+                file: id.file,
+                stored: id.sum,
+                found,
+            });
+        }
+        Ok(Blob::from_vec(bytes))
+    }
+
+    /// Empties a file. After `Ok` each stop leaves it empty, until it is changed again. Takes no memory, and answers `Disk`
+    /// alone.
+    pub fn release<D: Disk>(&mut self, disk: &mut D, file: u32) -> Result<(), StoreFault>
+        ensures empty { D.honest → OnOk result (D.past disk.new (D.moment disk.new) file ≡ settled []) }
+        ensures seen { D.honest → OnOk result (D.seen disk.new file ≡ []) }
+        ensures touches { D.honest → Touches (λ f. f ≡ file) (D.moment disk.old) (D.moment disk.new) (D.past disk.old) (D.past disk.new) }
+        ensures others { D.honest → OthersStay file (D.seen disk.old) (D.seen disk.new) }
+        ensures counts { OnOk result (D.moment disk.new ≡ D.moment disk.old + 2) }
+        ensures only { OnlyDisk result }
+        ensures cause { IsCaused (D.faults disk.old) (D.faults disk.new) result }
+    {
+        disk.cut(file, 0)?;
+        disk.sync(file)?;
+        Ok(())
+    }
+}
