@@ -1,6 +1,6 @@
 ghost use Rattle.std.specs.Prelude.{◌≡◌, ℕ, ◌+◌, ◌≤◌, min, List, [], ◌∷◌, ◌++◌, length, drop, is_ok, is_some, vec_capacity, IsNone, IfSome, IfOk, IfErr, OnOk, if◌then◌else◌};
 ghost use Rattle.dav_disk.specs.Disk.{Touches, LeavesOnly, OthersStay, AllStay};
-ghost use Rattle.dav_store.specs.Cause.{IsCaused, OnlyDisk};
+ghost use Rattle.dav_store.specs.Cause.{IsCaused, OnlyDisk, IsNoDamage};
 ghost use Rattle.dav_store.specs.Rows.{IsPayload, IsClosed, HasRow, IsBroken, IsReading, IsAtRest, IsReady, IsBeforeOrAfter};
 ghost use Rattle.dav_store.specs.declared.fault.StoreFault.TheVariants.{NotACache};
 
@@ -78,6 +78,7 @@ impl Journal {
         ensures touches { D.honest → Touches (λ _. ⊥) (D.moment disk.old) (D.moment disk.new) (D.past disk.old) (D.past disk.new) }
         ensures seen { D.honest → AllStay (D.seen disk.old) (D.seen disk.new) }
         ensures cause { IsCaused (D.faults disk.old) (D.faults disk.new) result }
+        ensures undamaged { IfErr result IsNoDamage }
         ensures rows { IfOk result (λ o. journal_rows self.new ≡ (if is_some o then min (journal_rows self.old + 1) 18446744073709551615 else journal_rows self.old)) }
         ensures head { journal_head self.new ≡ journal_head self.old }
     {

@@ -1,7 +1,7 @@
 ghost use Rattle.std.specs.Prelude.{◌≡◌, ℕ, ◌+◌, ◌<◌, take, drop, length, IsNone, IfSome, IfOk, IfErr};
 ghost use Rattle.dav_disk.specs.Disk.{Touches, AllStay};
 ghost use Rattle.dav_store.specs.Rows.{IsClosed, HasRow, IsBroken};
-ghost use Rattle.dav_store.specs.Cause.{IsCaused};
+ghost use Rattle.dav_store.specs.Cause.{IsCaused, IsNoDamage};
 ghost use Rattle.dav_store.specs.declared.fault.StoreFault.TheVariants.{NotACache};
 
 use crate::StoreFault;
@@ -22,6 +22,7 @@ pub(crate) fn row_at<D: Disk>(
     ensures touches { D.honest → Touches (λ _. ⊥) (D.moment disk.old) (D.moment disk.new) (D.past disk.old) (D.past disk.new) }
     ensures seen { D.honest → AllStay (D.seen disk.old) (D.seen disk.new) }
     ensures cause { IsCaused (D.faults disk.old) (D.faults disk.new) result }
+    ensures undamaged { IfErr result IsNoDamage }
 {
     let mut bytes = [0u8; 3];
     let count = disk.read(0, gate, &mut bytes)?;
@@ -47,6 +48,7 @@ fn payload_of<D: Disk>(
     ensures touches { D.honest → Touches (λ _. ⊥) (D.moment disk.old) (D.moment disk.new) (D.past disk.old) (D.past disk.new) }
     ensures seen { D.honest → AllStay (D.seen disk.old) (D.seen disk.new) }
     ensures cause { IsCaused (D.faults disk.old) (D.faults disk.new) result }
+    ensures undamaged { IfErr result IsNoDamage }
 {
     let mut payload = Vec::from_elem(alloc, 0u8, len)?;
     let behind = gate.saturating_add(3);

@@ -1,6 +1,6 @@
 ghost use Rattle.std.specs.Prelude.{◌≡◌, ◌⊎◌, ℕ, ◌<◌, ◌≤◌, List, [], ◌∷◌, length, take, IfOk, IfErr, OnOk, true, false};
 ghost use Rattle.dav_disk.specs.Disk.{IsOutcome, Touches, LeavesOnly, OthersStay, AllStay, HasCause, settled};
-ghost use Rattle.dav_store.specs.Cause.{IsCaused};
+ghost use Rattle.dav_store.specs.Cause.{IsCaused, IsNoDamage};
 ghost use Rattle.dav_store.specs.Found.{IsFound};
 ghost use Rattle.dav_store.specs.Rows.{IsPayload, IsClosed, HasRow, Spells, IsReading, IsAtRest};
 ghost use Rattle.dav_store.specs.Start.{IsHead, IsNothing, IsRefused, LacksHead};
@@ -96,6 +96,7 @@ impl Journal {
         ensures others { D.honest → OthersStay 0 (D.seen disk.old) (D.seen disk.new) }
         ensures rows { IfOk result (λ j. journal_rows j ≡ 1) }
         ensures cause { IsCaused (D.faults disk.old) (D.faults disk.new) result }
+        ensures undamaged { IfErr result IsNoDamage }
     {
         let journal = Journal::blank(alloc, head)?;
         match look(disk)? {
@@ -125,6 +126,7 @@ impl Journal {
         ensures rows { IfOk result (λ j. journal_rows j ≡ 1) }
         ensures only { IfErr result (λ e. (at : ℕ) → e ≡ NotACache at → ⊥) }
         ensures cause { IsCaused (D.faults disk.old) (D.faults disk.new) result }
+        ensures undamaged { IfErr result IsNoDamage }
     {
         ready_gate(disk, closed)?;
         self.append(disk, head)?;
@@ -144,6 +146,7 @@ impl Journal {
         ensures seen { D.honest → AllStay (D.seen disk.old) (D.seen disk.new) }
         ensures rows { IfOk result (λ j. journal_rows j ≡ 1) }
         ensures cause { IsCaused (D.faults disk.old) (D.faults disk.new) result }
+        ensures undamaged { IfErr result IsNoDamage }
     {
         match self.next_row(disk) {
             Ok(Some((_, row))) => self.with_head(row),
