@@ -204,13 +204,20 @@ fn refuses_references(rt: HostRuntime) {
 
 #[test]
 fn bounds_the_text_of_a_base(rt: HostRuntime) -> Result<(), UriFault> {
-    // Dots in a path are folded, so that only the host can make a base long.
+    // Empty segments count in the text of the URL, and not in the path.
     let alloc = rt.alloc();
-    let mut text = String::from_str(alloc, "http://h/").map_err(Memory::from)?;
-    for _ in 0..40_000 {
-        text.push_str("./").map_err(Memory::from)?;
+    let mut text = String::from_str(alloc, "http://h").map_err(Memory::from)?;
+    for _ in 0..65_496 {
+        text.push('/').map_err(Memory::from)?;
     }
-    assert_eq!(rt; Base::read(alloc, text.as_str())?.text(), "http://h/");
+    let base = Base::read(alloc, text.as_str())?;
+    assert_eq!(rt; base.text().len(), 65_504);
+    assert_eq!(rt; base.path().escaped(alloc)?.as_str(), "/");
+    text.push('/').map_err(Memory::from)?;
+    match Base::read(alloc, text.as_str()) {
+        Ok(_) => assert!(rt; false, "read a base of 65,505 bytes"),
+        Err(fault) => assert_eq!(rt; told(&fault).0, "no URL"),
+    }
     Ok(())
 }
 
