@@ -26,6 +26,12 @@ has_length Propfind = true
 has_length Proppatch = true
 has_length method = false
 
+-- a request of this method may be sent again where no reply came: RFC 9110 section 9.2.2. A LOCK may not: a
+-- second one makes another lock, or meets the first (RFC 4918 section 9.10)
+abbrev pub is_idempotent : Method → Bool
+is_idempotent Lock = false
+is_idempotent method = true
+
 -- the line that states it
 abbrev pub length_line : Method → ℕ → List ℕ
 length_line method size =

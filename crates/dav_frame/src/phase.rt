@@ -139,13 +139,12 @@ fn take_piece(alloc: Global, phase: Phase, piece: &[u8]) -> Step
     ensures counts { Counts (bytes_read phase) result.used result.phase }
     ensures leads { Leads phase piece.now result.phase (drop result.used piece.now) }
 {
-    let line = first_line(piece);
     match phase {
         Phase::AtHead {
             method,
             before,
             kept,
-        } => in_head(alloc, method, before, kept, line),
+        } => in_head(alloc, method, before, kept, first_line(piece)),
         Phase::InBody {
             head,
             at,
@@ -153,14 +152,14 @@ fn take_piece(alloc: Global, phase: Phase, piece: &[u8]) -> Step
             need,
         } => in_body(head, at, body, need, piece),
         Phase::ToEnd { head, at, body } => to_end(head, at, body, piece),
-        Phase::AtLine { chunks, kept } => in_line(alloc, chunks, kept, line),
+        Phase::AtLine { chunks, kept } => in_line(alloc, chunks, kept, first_line(piece)),
         Phase::InData { chunks, got, need } => in_data(chunks, got, need, piece),
         Phase::AfterData {
             chunks,
             got,
             has_cr,
         } => after_data(alloc, chunks, got, has_cr, piece),
-        Phase::AtTrailers { chunks, kept } => in_trailers(chunks, kept, line),
+        Phase::AtTrailers { chunks, kept } => in_trailers(chunks, kept, first_line(piece)),
         Phase::Whole { .. } => unreachable!(),
         Phase::Failed(_) => unreachable!(),
     }

@@ -1,5 +1,5 @@
 ghost use Rattle.std.specs.Prelude.{◌≡◌, ◌++◌, OnOk, OnErr};
-ghost use Rattle.dav_frame.specs.Request.{request_text, request_line, start_of, has_length as has_length_lem, length_line, StatesBody, BeginsWith};
+ghost use Rattle.dav_frame.specs.Request.{request_text, request_line, start_of, has_length as has_length_lem, is_idempotent, length_line, StatesBody, BeginsWith};
 
 use crate::fields::{Fields, put_field};
 use crate::put::put_all;
@@ -43,6 +43,17 @@ fn has_length(method: Method) -> bool
     match method {
         Method::Put | Method::Lock | Method::Propfind | Method::Proppatch => true,
         _ => false,
+    }
+}
+
+/// Whether a request of this method may be sent again where no reply came: RFC 9110 section 9.2.2. LOCK
+/// alone may not: a second one makes another lock, or meets the first.
+pub fn idempotent(method: Method) -> bool
+    ensures { result ≡ is_idempotent method }
+{
+    match method {
+        Method::Lock => false,
+        _ => true,
     }
 }
 

@@ -2,7 +2,7 @@ ghost use Rattle.std.specs.Prelude.{◌≡◌, ◌<◌, ◌⊎◌, [], IsTrue};
 ghost use Rattle.dav_frame.specs.Request.{has_length};
 
 use super::*;
-use dav_text::{Blob, Memory, Method, Text};
+use dav_text::{Blob, Memory, Text};
 use std::alloc::{AllocError, Global};
 
 /// A reply, and the number of bytes taken.
@@ -377,7 +377,8 @@ fn limits_size_lines(rt: HostRuntime) -> Result<(), AllocError> {
     Ok(())
 }
 
-/// A reply with this head and a body of so many bytes, in chunks of 65,536 bytes where `chunked`.
+/// A reply with this head and a body of so many bytes, in chunks of 65,536 bytes and perhaps a last one of 1
+/// byte where `chunked`.
 fn long_reply(
     alloc: Global,
     head: &str,
@@ -385,32 +386,22 @@ fn long_reply(
     size: usize,
 ) -> Result<Vec<u8>, AllocError> {
     let mut stream = Vec::from_slice(alloc, head.as_bytes())?;
-    let block = "x".repeat(alloc, 65_536)?;
-    let mut left = size;
-    while left > 0 {
-        let part = block.as_bytes();
-        let part = if left < part.len() {
-            &part[..left]
+    let body = "x".repeat(alloc, size)?;
+    if !chunked {
+        stream.extend_from_slice(body.as_bytes())?;
+        return Ok(stream);
+    }
+    for part in body.as_bytes().chunks(65_536) {
+        let line = if part.len() < 65_536 {
+            "1\r\n"
         } else {
-            part
+            "10000\r\n"
         };
-        if chunked {
-            let line = if part.len() < 65_536 {
-                "1\r\n"
-            } else {
-                "10000\r\n"
-            };
-            stream.extend_from_slice(line.as_bytes())?;
-        }
+        stream.extend_from_slice(line.as_bytes())?;
         stream.extend_from_slice(part)?;
-        if chunked {
-            stream.extend_from_slice(b"\r\n")?;
-        }
-        left = left.saturating_sub(part.len().max(1));
+        stream.extend_from_slice(b"\r\n")?;
     }
-    if chunked {
-        stream.extend_from_slice(b"0\r\n\r\n")?;
-    }
+    stream.extend_from_slice(b"0\r\n\r\n")?;
     Ok(stream)
 }
 
@@ -522,4 +513,25 @@ fn tells_clean_values(rt: HostRuntime) {
     for text in ["\r", "a\n", "\0b"] {
         assert!(rt; !is_clean(text.as_bytes()), "at {text:?}");
     }
+}
+
+#[test]
+fn tells_what_may_be_sent_again(rt: HostRuntime) {
+    let methods = [
+        Method::Options,
+        Method::Get,
+        Method::Head,
+        Method::Put,
+        Method::Delete,
+        Method::Mkcol,
+        Method::Copy,
+        Method::Move,
+        Method::Unlock,
+        Method::Propfind,
+        Method::Proppatch,
+    ];
+    for method in methods {
+        assert!(rt; idempotent(method), "at {method:?}");
+    }
+    assert!(rt; !idempotent(Method::Lock));
 }
