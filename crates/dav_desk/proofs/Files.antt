@@ -88,10 +88,13 @@ pub path_marked : (xs : List Entry) (e : Entry) → Differ (λ x. x.file) xs →
 path_marked [] e files paths m = tt
 path_marked (x ∷ xs) e files paths m =
     by_test (has_file e.file x)
-    (λ t. rw t (λ _. refl, elim m [
-      | inl s ↦ every_weaker (λ y. y.path.segments ≢ x.path.segments) (λ y. y.path.segments ≡ e.path.segments → y.taken ≡ true) xs (λ y n same. absurd (n (same ∙ sym (ap (λ (z : Entry). z.path.segments) s)))) paths.0
-      | inr r ↦ absurd (every_at (λ y. y.file ≢ x.file) xs e files.0 r (sym (file_is e.file x t)))
-    ]))
+    (λ t. rw t (
+      λ _. refl,
+      elim m [
+        | inl s ↦ every_weaker (λ y. y.path.segments ≢ x.path.segments) (λ y. y.path.segments ≡ e.path.segments → y.taken ≡ true) xs (λ y n same. absurd (n (same ∙ sym (ap (λ (z : Entry). z.path.segments) s)))) paths.0
+        | inr r ↦ absurd (every_at (λ y. y.file ≢ x.file) xs e files.0 r (sym (file_is e.file x t)))
+      ],
+    ))
     (λ t. rw t (elim m [
       | inl s ↦ absurd (file_is_not e.file x t (ap (λ (z : Entry). z.file) s))
       | inr r ↦ (λ same. absurd (every_at (λ y. y.path.segments ≢ x.path.segments) xs e paths.0 r (sym same)), path_marked xs e files.1 paths.1 r)
