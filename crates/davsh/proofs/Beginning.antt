@@ -6,6 +6,7 @@ use Rattle.dav_edge.specs.Device.{Send, Fails, Goes, Takes, Gives, Answer, Happe
 use Rattle.dav_edge.specs.Whole.{Sends}
 use Rattle.dav_edge.proofs.Sending.{sent_so}
 use Rattle.dav_edge.proofs.Taking.{taken-append}
+use Rattle.dav_text.specs.Path.{PathParts}
 use Rattle.davsh.specs.declared.stop.Stop.{Stop}
 use Rattle.davsh.specs.declared.stop.Stop.TheVariants.{End, Input}
 use Rattle.davsh.specs.Line.{without_return, lines_from}
@@ -85,8 +86,8 @@ starved_count s h = ap (λ (b : Bool). if b then s.done else min (s.done + 1) 18
 -- after a want of memory no line is counted
 walk_counts : (told : List Told) (before end : State) → Walks before told end → before.starved ≡ true → end.done ≡ before.done
 walk_counts [] before end walks h = ap (λ (s : State). s.done) walks
-walk_counts (t ∷ told) before end (now, answered, inl (none, is)) h = ap (λ (s : State). s.done) is ∙ answer_counts before now t.line t.printed answered
-walk_counts (t ∷ told) before end (now, answered, inr walks) h =
+walk_counts (t ∷ told) before end (now, answered, inl (none, is), here) h = ap (λ (s : State). s.done) is ∙ answer_counts before now t.line t.printed answered
+walk_counts (t ∷ told) before end (now, answered, inr walks, here) h =
     let starved = answer_starves before now t.line t.printed answered h in
     walk_counts told (counted now) end walks starved ∙ starved_count now starved ∙ answer_counts before now t.line t.printed answered
 
@@ -124,8 +125,8 @@ nothing_first lines machine before run fed done = record {
 abbrev then_next : List ℕ → State → (State → ByteMachine (Stop × State)) → ByteMachine (Stop × State)
 then_next line before next = and_then one_device (Carries line before) (λ r. goes_on (next r.1) r.1 r.0)
 
-abbrev told_line : List ℕ → List ℕ → Told
-told_line line printed = record { line = line; printed = printed }
+abbrev told_line : PathParts → List ℕ → List ℕ → Told
+told_line current line printed = record { current = current; line = line; printed = printed }
 
 -- a run over a line and what follows, of answers that begin with those to the line's calls
 line_only : (line : List ℕ) (before : State) (next : State → ByteMachine (Stop × State)) (answers : List Answer) (first : LineRun) (now : State) (early : List Happened)
@@ -173,11 +174,11 @@ front_by line lines before next answers first after run c true false enough went
     let result : first.result ≡ (true, counted c.now) = ap (λ (r : LineRun). r.result) is ∙ ap (line_end c.now) went in
     let printed : taken first.made ≡ c.printed = ap taken made ∙ (sent_so c.printed answers b c.writes.begins).whole went in
     record {
-      first = told_line line c.printed ∷ later.first;
+      first = told_line before.current line c.printed ∷ later.first;
       rest = later.rest;
       lines_are = ap (λ (l : List (List ℕ)). line ∷ l) later.lines_are;
       now = later.now;
-      carried = (c.now, c.answered, later.carried);
+      carried = (c.now, c.answered, later.carried, refl);
       fed = later.fed;
       done = later.done ∙ sym (ap (λ (r : ShellRun). r.result.1.done) whole);
       early = first.made ++ later.early;
@@ -236,7 +237,7 @@ shell_front (b ∷ bytes) failed begun st answers run does fed =
 -- how many lines are counted
 carried_fed : (told : List Told) (before end : State) → Carried before told end → end.starved ≡ false → before.starved ≡ false
 carried_fed [] before end carried fed = sym (ap (λ (s : State). s.starved) carried) ∙ fed
-carried_fed (t ∷ told) before end (now, answered, carried) fed = answer_fed before now t.line t.printed answered (carried_fed told (counted now) end carried fed)
+carried_fed (t ∷ told) before end (now, answered, carried, here) fed = answer_fed before now t.line t.printed answered (carried_fed told (counted now) end carried fed)
 
 fed_count : (s : State) → s.starved ≡ false → (counted s).done ≡ min (s.done + 1) 18446744073709551615
 fed_count s h = ap (λ (b : Bool). if b then s.done else min (s.done + 1) 18446744073709551615) h
@@ -246,7 +247,7 @@ carried_counts [] before end carried fed few = ap (λ (s : State). s.done) carri
   where
     none : (done most : ℕ) → done ≤ most → done ≡ min (done + 0) most
     none done most h = omega arith
-carried_counts (t ∷ told) before end (now, answered, carried) fed few =
+carried_counts (t ∷ told) before end (now, answered, carried, here) fed few =
     let enough : now.starved ≡ false = carried_fed told (counted now) end carried fed in
     let one : (counted now).done ≡ min (before.done + 1) 18446744073709551615 =
     fed_count now enough ∙ ap (λ (n : ℕ). min (n + 1) 18446744073709551615) (answer_counts before now t.line t.printed answered) in
@@ -263,5 +264,5 @@ carried_counts (t ∷ told) before end (now, answered, carried) fed few =
 from_none : (done len most : ℕ) → done ≡ min (0 + len) most → done ≡ min len most
 from_none done len most is = omega arith
 
-pub first_counts : (told : List Told) (end : State) → Carried fresh_state told end → end.starved ≡ false → end.done ≡ min (length told) 18446744073709551615
-first_counts told end carried fed = from_none end.done (length told) 18446744073709551615 (carried_counts told fresh_state end carried fed (lit≤ tt))
+pub first_counts : (current : PathParts) (told : List Told) (end : State) → Carried (fresh_state current) told end → end.starved ≡ false → end.done ≡ min (length told) 18446744073709551615
+first_counts current told end carried fed = from_none end.done (length told) 18446744073709551615 (carried_counts told (fresh_state current) end carried fed (lit≤ tt))

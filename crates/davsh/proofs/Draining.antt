@@ -17,6 +17,7 @@ use Rattle.dav_desk.specs.declared.ask.Ask.TheVariants.{Take, Settle}
 use Rattle.dav_desk.specs.declared.ask.Done.{Done}
 use Rattle.dav_desk.specs.declared.fault.DeskFault.{DeskFault}
 use Rattle.dav_desk.specs.declared.fault.DeskFault.TheVariants as faults
+use Rattle.dav_uri.specs.Target.{BaseParts}
 use Rattle.dav_desk.proofs.Laws.{refused_changes_nothing, take_answers, take_leaves_fewer, take_puts_in_flight, idle_changes_nothing, settle_answers, settle_is_not_refused, settle_leaves_no_more}
 use Rattle.davsh.specs.Exchange.{Heard, Uploads}
 use Rattle.davsh.specs.Drain.{Drains, IsFlying, idle, memory, starved, turn, done_of}
@@ -30,10 +31,10 @@ refused_same ask t u (faults.Limit which) step = refused_changes_nothing t ask u
 refused_same ask t u faults.Memory step = step
 
 -- a take that was refused
-pub drains_refused : (a : DeviceLog) (host : List ℕ) (t u : Table) (fault : DeskFault) → IsStep t Take u (Err fault) → DoesOn a a (Drains host t) (false, u)
-drains_refused a host t u fault step =
-    subst (λ (v : Table). DoesOn a a (Drains host t) (false, v)) (sym (refused_same Take t u fault step))
-    (reaches_as one_device (Grew a a) (Drains host t) (give one_device (false, t)) (Drains host t) (λ answers run does. memory t answers run does) (on_same a (Drains host t)))
+pub drains_refused : (a : DeviceLog) (base : BaseParts) (t u : Table) (fault : DeskFault) → IsStep t Take u (Err fault) → DoesOn a a (Drains base t) (false, u)
+drains_refused a base t u fault step =
+    subst (λ (v : Table). DoesOn a a (Drains base t) (false, v)) (sym (refused_same Take t u fault step))
+    (reaches_as one_device (Grew a a) (Drains base t) (give one_device (false, t)) (Drains base t) (λ answers run does. memory t answers run does) (on_same a (Drains base t)))
 
 idle_of : (t u : Table) (answer : DeskAnswer) → after t Take ≡ (u, Ok answer) → ((job : Job) → answer ≡ Took job → ⊥) → after t Take ≡ (u, Ok Idle)
 idle_of t u answer step other = elim (take_answers t u answer step) [
@@ -42,13 +43,13 @@ idle_of t u answer step other = elim (take_answers t u answer step) [
 ]
 
 -- nothing is left to take
-pub drains_idle : (a : DeviceLog) (host : List ℕ) (t u : Table) (answer : DeskAnswer) → after t Take ≡ (u, Ok answer) → ((job : Job) → answer ≡ Took job → ⊥) → DoesOn a a (Drains host t) (true, u)
-drains_idle a host t u answer step other =
+pub drains_idle : (a : DeviceLog) (base : BaseParts) (t u : Table) (answer : DeskAnswer) → after t Take ≡ (u, Ok answer) → ((job : Job) → answer ≡ Took job → ⊥) → DoesOn a a (Drains base t) (true, u)
+drains_idle a base t u answer step other =
     let none = idle_of t u answer step other in
     let same = idle_changes_nothing t u none in
     let here : after t Take ≡ (t, Ok Idle) = none ∙ ap (λ (v : Table). let r : Table × Result DeskAnswer DeskFault = (v, Ok Idle) in r) same in
-    subst (λ (v : Table). DoesOn a a (Drains host t) (true, v)) (sym same)
-    (reaches_as one_device (Grew a a) (Drains host t) (give one_device (true, t)) (Drains host t) (λ answers run does. idle t answers run here does) (on_same a (Drains host t)))
+    subst (λ (v : Table). DoesOn a a (Drains base t) (true, v)) (sym same)
+    (reaches_as one_device (Grew a a) (Drains base t) (give one_device (true, t)) (Drains base t) (λ answers run does. idle t answers run here does) (on_same a (Drains base t)))
 
 -- the answer was a job
 pub took_as : (t u : Table) (answer : DeskAnswer) (job : Job) → after t Take ≡ (u, Ok answer) → answer ≡ Took job → after t Take ≡ (u, Ok (Took job))
@@ -58,9 +59,9 @@ pub settled_as : (t u : Table) (number : ℕ) (done : Done) (came : Option ℕ) 
 settled_as t u number done came answer is step = subst (λ (d : Done). after t (Settle number d) ≡ (u, Ok answer)) is step
 
 -- a job was taken, and there was want of memory while it was sent
-pub drains_starved : (a b : DeviceLog) (host : List ℕ) (t u : Table) (job : Job) (want : Memory) → after t Take ≡ (u, Ok (Took job)) → DoesOn a b (Uploads host job.path job.bytes) (Err want)
-    → DoesOn a b (Drains host t) (false, u)
-drains_starved a b host t u job want step one = record {
+pub drains_starved : (a b : DeviceLog) (base : BaseParts) (t u : Table) (job : Job) (want : Memory) → after t Take ≡ (u, Ok (Took job)) → DoesOn a b (Uploads base job.path job.bytes) (Err want)
+    → DoesOn a b (Drains base t) (false, u)
+drains_starved a b base t u job want step one = record {
   made = one.made;
   grew = one.grew;
   same = λ more run does.
@@ -71,9 +72,9 @@ drains_starved a b host t u job want step one = record {
 }
 
 -- a job was taken, sent and settled
-pub drains_turn : (a b : DeviceLog) (host : List ℕ) (t u v : Table) (job : Job) (came : Option ℕ) (answer : DeskAnswer) → after t Take ≡ (u, Ok (Took job)) → DoesOn a b (Uploads host job.path job.bytes) (Ok came)
-    → after u (Settle job.number (done_of came)) ≡ (v, Ok answer) → ReachesOn a b (Drains host t) (Drains host v)
-drains_turn a b host t u v job came answer step one settling = record {
+pub drains_turn : (a b : DeviceLog) (base : BaseParts) (t u v : Table) (job : Job) (came : Option ℕ) (answer : DeskAnswer) → after t Take ≡ (u, Ok (Took job)) → DoesOn a b (Uploads base job.path job.bytes) (Ok came)
+    → after u (Settle job.number (done_of came)) ≡ (v, Ok answer) → ReachesOn a b (Drains base t) (Drains base v)
+drains_turn a b base t u v job came answer step one settling = record {
   made = one.made;
   grew = one.grew;
   same = λ more run does.

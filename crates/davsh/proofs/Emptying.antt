@@ -18,6 +18,7 @@ use Rattle.dav_desk.specs.declared.answer.Job.{Job}
 use Rattle.dav_desk.specs.declared.ask.Ask.TheVariants.{Settle}
 use Rattle.dav_desk.specs.declared.ask.Done.{Done}
 use Rattle.dav_desk.specs.declared.ask.Done.TheVariants as done
+use Rattle.dav_uri.specs.Target.{BaseParts}
 use Rattle.dav_desk.proofs.Laws.{take_is_within, take_keeps_queued, take_loses_nothing, take_puts_in_flight, settle_is_within, settle_keeps_lost, sent_keeps_others, again_ends_flight_alone, refused_keeps_all}
 use Rattle.davsh.specs.Exchange.{Heard, HasReply, Uploads, sends, memory as no_memory, put_text, is_success, asks_again}
 use Rattle.davsh.specs.Drain.{Drains, Turn, Starved, idle, memory, starved, turn, done_of}
@@ -31,20 +32,20 @@ abbrev DrainRun : Type 0
 DrainRun = Run (List Happened) (List Answer) (Bool × Table)
 
 -- whatever connections there were before, one that ended among these calls was sent the request and answered
-pub record Put1 (host : List ℕ) (path : PathParts) (bytes : List ℕ) (events : List Happened) : Type 0 where
+pub record Put1 (base : BaseParts) (path : PathParts) (bytes : List ℕ) (events : List Happened) : Type 0 where
   pub connection : Connection
   pub ended : (cs : Connections) → Contains (after_calls cs events).ended connection
-  pub to_host : connection.host ≡ host
-  pub to_port : connection.port ≡ 80
+  pub to_host : connection.host ≡ base.host
+  pub to_port : connection.port ≡ base.port
   pub named : PathParts
   pub same : named.segments ≡ path.segments
-  pub sent : connection.sent ≡ put_text host named bytes
+  pub sent : connection.sent ≡ put_text base named bytes
   pub reply : Message
   pub received : HasReply connection.received reply
   pub success : is_success reply.head.status ≡ true
 
-pub put_first : (host : List ℕ) (path : PathParts) (bytes : List ℕ) (es fs : List Happened) → Put1 host path bytes es → Put1 host path bytes (es ++ fs)
-put_first host path bytes es fs one = record {
+pub put_first : (base : BaseParts) (path : PathParts) (bytes : List ℕ) (es fs : List Happened) → Put1 base path bytes es → Put1 base path bytes (es ++ fs)
+put_first base path bytes es fs one = record {
   connection = one.connection;
   ended = λ cs.
       let begins = ended_after_calls (after_calls cs es) fs in
@@ -60,8 +61,8 @@ put_first host path bytes es fs one = record {
   success = one.success;
 }
 
-put_later : (host : List ℕ) (path : PathParts) (bytes : List ℕ) (es fs : List Happened) → Put1 host path bytes fs → Put1 host path bytes (es ++ fs)
-put_later host path bytes es fs one = record {
+put_later : (base : BaseParts) (path : PathParts) (bytes : List ℕ) (es fs : List Happened) → Put1 base path bytes fs → Put1 base path bytes (es ++ fs)
+put_later base path bytes es fs one = record {
   connection = one.connection;
   ended = λ cs. subst (λ (k : Connections). Contains k.ended one.connection) (sym (after_calls-append cs es fs)) (one.ended (after_calls cs es));
   to_host = one.to_host;
@@ -75,10 +76,10 @@ put_later host path bytes es fs one = record {
 }
 
 -- a reply of success to the file's request
-put_answered : (host : List ℕ) (path : PathParts) (bytes : List ℕ) (named : PathParts) (status : ℕ) (events : List Happened) → named.segments ≡ path.segments
-    → Answered host (put_text host named bytes) status events → is_success status ≡ true → Put1 host path bytes events
-put_answered host path bytes named status events same answered success =
-    let c = connection host 80 (put_text host named bytes) answered.received in record {
+put_answered : (base : BaseParts) (path : PathParts) (bytes : List ℕ) (named : PathParts) (status : ℕ) (events : List Happened) → named.segments ≡ path.segments
+    → Answered base (put_text base named bytes) status events → is_success status ≡ true → Put1 base path bytes events
+put_answered base path bytes named status events same answered success =
+    let c = connection base.host base.port (put_text base named bytes) answered.received in record {
       connection = c;
       ended = λ cs. subst (λ (k : Connections). Contains k.ended c) (sym (answered.makes cs)) (Contains-append_right (all_of cs) (c ∷ []) c (0, lit< tt, refl));
       to_host = refl;
@@ -92,47 +93,47 @@ put_answered host path bytes named status events same answered success =
     }
 
 -- the file is queued, or lost, or was sent
-abbrev pub IsSafe : List ℕ → PathParts → List ℕ → Table → List Happened → Type 0
-IsSafe host path bytes now events = IsQueued now path bytes ⊎ (IsLost now path bytes ⊎ Put1 host path bytes events)
+abbrev pub IsSafe : BaseParts → PathParts → List ℕ → Table → List Happened → Type 0
+IsSafe base path bytes now events = IsQueued now path bytes ⊎ (IsLost now path bytes ⊎ Put1 base path bytes events)
 
 -- each file of the queue stays there, or is lost now, or was sent; what was lost stays lost
-record Empties (host : List ℕ) (before now : Table) (events : List Happened) : Type 0 where
+record Empties (base : BaseParts) (before now : Table) (events : List Happened) : Type 0 where
   within : IsWithin now
   lost : (path : PathParts) (bytes : List ℕ) → IsLost before path bytes → IsLost now path bytes
-  each : (path : PathParts) (bytes : List ℕ) → IsQueued before path bytes → IsSafe host path bytes now events
+  each : (path : PathParts) (bytes : List ℕ) → IsQueued before path bytes → IsSafe base path bytes now events
 
-empties_same : (host : List ℕ) (t : Table) (events : List Happened) → IsWithin t → Empties host t t events
-empties_same host t events within = record { within = within; lost = λ path bytes gone. gone; each = λ path bytes queued. inl queued }
+empties_same : (base : BaseParts) (t : Table) (events : List Happened) → IsWithin t → Empties base t t events
+empties_same base t events within = record { within = within; lost = λ path bytes gone. gone; each = λ path bytes queued. inl queued }
 
 -- the same file, under the same segments
-put_as : (host : List ℕ) (from path : PathParts) (sent bytes : List ℕ) (events : List Happened) → (from.segments ≡ path.segments) × (sent ≡ bytes) → Put1 host from sent events → Put1 host path bytes events
-put_as host from path sent bytes events is one = record {
+put_as : (base : BaseParts) (from path : PathParts) (sent bytes : List ℕ) (events : List Happened) → (from.segments ≡ path.segments) × (sent ≡ bytes) → Put1 base from sent events → Put1 base path bytes events
+put_as base from path sent bytes events is one = record {
   connection = one.connection;
   ended = one.ended;
   to_host = one.to_host;
   to_port = one.to_port;
   named = one.named;
   same = one.same ∙ is.0;
-  sent = one.sent ∙ ap (put_text host one.named) is.1;
+  sent = one.sent ∙ ap (put_text base one.named) is.1;
   reply = one.reply;
   received = one.received;
   success = one.success;
 }
 
 -- a job that ended as this, where something may have been heard
-settled_by : (host : List ℕ) (taken now : Table) (job : Job) (a : DeskAnswer) (events : List Happened) (d : Done) → IsWithin taken → IsInFlight taken job → after taken (Settle job.number d) ≡ (now, Ok a)
-    → (d ≡ done.Sent → Put1 host job.path job.bytes events) → Empties host taken now events
-settled_by host taken now job a events d within flight settles put = record {
+settled_by : (base : BaseParts) (taken now : Table) (job : Job) (a : DeskAnswer) (events : List Happened) (d : Done) → IsWithin taken → IsInFlight taken job → after taken (Settle job.number d) ≡ (now, Ok a)
+    → (d ≡ done.Sent → Put1 base job.path job.bytes events) → Empties base taken now events
+settled_by base taken now job a events d within flight settles put = record {
   within = settle_is_within taken job.number d now a within settles;
   lost = settle_keeps_lost taken job.number d now a settles;
   each = each d settles put;
 }
   where
-    each : (d : Done) → after taken (Settle job.number d) ≡ (now, Ok a) → (d ≡ done.Sent → Put1 host job.path job.bytes events) → (path : PathParts) (bytes : List ℕ) → IsQueued taken path bytes → IsSafe host path bytes now events
+    each : (d : Done) → after taken (Settle job.number d) ≡ (now, Ok a) → (d ≡ done.Sent → Put1 base job.path job.bytes events) → (path : PathParts) (bytes : List ℕ) → IsQueued taken path bytes → IsSafe base path bytes now events
     each done.Sent settles put path bytes queued =
         elim (sent_keeps_others taken job now a flight settles path bytes queued) [
           | inl stays ↦ inl stays
-          | inr is ↦ inr (inr (put_as host job.path path job.bytes bytes events is (put refl)))
+          | inr is ↦ inr (inr (put_as base job.path path job.bytes bytes events is (put refl)))
         ]
     each done.Again settles put path bytes queued =
         inl (subst (λ (t : Table). IsQueued t path bytes) (sym (again_ends_flight_alone taken job.number now a settles)) queued)
@@ -148,68 +149,68 @@ success_by false true again is = refl
 success_by false false true is = cc
 success_by false false false is = cc
 
-put_by : (host : List ℕ) (path : PathParts) (bytes : List ℕ) (answers : List Answer) (sent : HeardRun) (came : Option ℕ) → Uploads host path bytes answers sent → sent.result ≡ Ok came → done_of came ≡ done.Sent → Put1 host path bytes sent.made
-put_by host path bytes answers sent None (sends exchange) heard is = cc
-put_by host path bytes answers sent (Some status) (sends exchange) heard is =
-    put_answered host path bytes path status sent.made refl (exchange_replied host (put_text host path bytes) status answers sent exchange heard) (success_by (nat_eq 401 status) (is_success status) (asks_again status) is)
-put_by host path bytes answers sent came (no_memory want gives) heard is =
+put_by : (base : BaseParts) (path : PathParts) (bytes : List ℕ) (answers : List Answer) (sent : HeardRun) (came : Option ℕ) → Uploads base path bytes answers sent → sent.result ≡ Ok came → done_of came ≡ done.Sent → Put1 base path bytes sent.made
+put_by base path bytes answers sent None (sends exchange) heard is = cc
+put_by base path bytes answers sent (Some status) (sends exchange) heard is =
+    put_answered base path bytes path status sent.made refl (exchange_replied base (put_text base path bytes) status answers sent exchange heard) (success_by (nat_eq 401 status) (is_success status) (asks_again status) is)
+put_by base path bytes answers sent came (no_memory want gives) heard is =
     let h : Err want ≡ Ok came = sym (ap (λ (r : HeardRun). r.result) gives) ∙ heard in cc
 
 lost_as_before : (before now : Table) → now.lost ≡ before.lost → (path : PathParts) (bytes : List ℕ) → IsLost before path bytes → IsLost now path bytes
 lost_as_before before now is path bytes gone = subst (λ (l : List LostFile). HoldsFile (lost_files_of l) path bytes) (sym is) gone
 
-empties_turn : (host : List ℕ) (before now : Table) (answers : List Answer) (sent : HeardRun) → IsWithin before → Turn host before answers now sent → Empties host before now sent.made
-empties_turn host before now answers sent within t =
+empties_turn : (base : BaseParts) (before now : Table) (answers : List Answer) (sent : HeardRun) → IsWithin before → Turn base before answers now sent → Empties base before now sent.made
+empties_turn base before now answers sent within t =
     let job = t.job in
-    let settled = settled_by host t.taken now job (Settled t.fated) sent.made (done_of t.came) (take_is_within before t.taken job within t.takes)
+    let settled = settled_by base t.taken now job (Settled t.fated) sent.made (done_of t.came) (take_is_within before t.taken job within t.takes)
     (take_puts_in_flight before t.taken job within t.takes) t.settles
-    (put_by host job.path job.bytes answers sent t.came t.uploads t.heard) in record {
+    (put_by base job.path job.bytes answers sent t.came t.uploads t.heard) in record {
       within = settled.within;
       lost = λ path bytes gone. settled.lost path bytes (lost_as_before before t.taken (take_loses_nothing before t.taken job t.takes) path bytes gone);
       each = λ path bytes queued. settled.each path bytes (take_keeps_queued before t.taken job t.takes path bytes queued);
     }
 
-empties_then : (host : List ℕ) (a b c : Table) (es fs : List Happened) → Empties host a b es → Empties host b c fs → Empties host a c (es ++ fs)
-empties_then host a b c es fs one two = record {
+empties_then : (base : BaseParts) (a b c : Table) (es fs : List Happened) → Empties base a b es → Empties base b c fs → Empties base a c (es ++ fs)
+empties_then base a b c es fs one two = record {
   within = two.within;
   lost = λ path bytes gone. two.lost path bytes (one.lost path bytes gone);
   each = λ path bytes queued. elim (one.each path bytes queued) [
     | inl stays ↦ elim (two.each path bytes stays) [
       | inl still ↦ inl still
       | inr (inl gone) ↦ inr (inl gone)
-      | inr (inr later) ↦ inr (inr (put_later host path bytes es fs later))
+      | inr (inr later) ↦ inr (inr (put_later base path bytes es fs later))
     ]
     | inr (inl gone) ↦ inr (inl (two.lost path bytes gone))
-    | inr (inr first) ↦ inr (inr (put_first host path bytes es fs first))
+    | inr (inr first) ↦ inr (inr (put_first base path bytes es fs first))
   ];
 }
 
-empties_starved : (host : List ℕ) (before now : Table) (answers : List Answer) (sent : HeardRun) → IsWithin before → Starved host before answers now sent → Empties host before now sent.made
-empties_starved host before now answers sent within s = record {
+empties_starved : (base : BaseParts) (before now : Table) (answers : List Answer) (sent : HeardRun) → IsWithin before → Starved base before answers now sent → Empties base before now sent.made
+empties_starved base before now answers sent within s = record {
   within = take_is_within before now s.job within s.takes;
   lost = lost_as_before before now (take_loses_nothing before now s.job s.takes);
   each = λ path bytes queued. inl (take_keeps_queued before now s.job s.takes path bytes queued);
 }
 
-as_run : (host : List ℕ) (before now : Table) (went : Bool) (made : List Happened) (left : List Answer) (run : DrainRun) → run ≡ run_with (went, now) made left → Empties host before now made → Empties host before run.result.1 run.made
-as_run host before now went made left run is one = subst (λ (r : DrainRun). Empties host before r.result.1 r.made) (sym is) one
+as_run : (base : BaseParts) (before now : Table) (went : Bool) (made : List Happened) (left : List Answer) (run : DrainRun) → run ≡ run_with (went, now) made left → Empties base before now made → Empties base before run.result.1 run.made
+as_run base before now went made left run is one = subst (λ (r : DrainRun). Empties base before r.result.1 r.made) (sym is) one
 
-empties : (host : List ℕ) (before : Table) (answers : List Answer) (run : DrainRun) → IsWithin before → Drains host before answers run → Empties host before run.result.1 run.made
-empties host before answers run within (idle t a r none gives) = as_run host t t true [] a r gives (empties_same host t [] within)
-empties host before answers run within (memory t a r gives) = as_run host t t false [] a r gives (empties_same host t [] within)
-empties host before answers run within (starved t a r now sent s is) = as_run host t now false sent.made sent.left r is (empties_starved host t now a sent within s)
-empties host before answers run within (turn t a r now sent rest one more is) =
-    let first = empties_turn host t now a sent within one in
-    let later = empties host now sent.left rest first.within more in
-    subst (λ (q : DrainRun). Empties host t q.result.1 q.made) (sym is) (empties_then host t now rest.result.1 sent.made rest.made first later)
+empties : (base : BaseParts) (before : Table) (answers : List Answer) (run : DrainRun) → IsWithin before → Drains base before answers run → Empties base before run.result.1 run.made
+empties base before answers run within (idle t a r none gives) = as_run base t t true [] a r gives (empties_same base t [] within)
+empties base before answers run within (memory t a r gives) = as_run base t t false [] a r gives (empties_same base t [] within)
+empties base before answers run within (starved t a r now sent s is) = as_run base t now false sent.made sent.left r is (empties_starved base t now a sent within s)
+empties base before answers run within (turn t a r now sent rest one more is) =
+    let first = empties_turn base t now a sent within one in
+    let later = empties base now sent.left rest first.within more in
+    subst (λ (q : DrainRun). Empties base t q.result.1 q.made) (sym is) (empties_then base t now rest.result.1 sent.made rest.made first later)
 
 contains_all : (cs : Connections) (c : Connection) → Contains cs.ended c → Contains (all_of cs) c
 contains_all cs c holds =
     let begins = begins_and_last cs.ended cs.standing in
     subst (λ (l : List Connection). Contains l c) (sym begins.1) (Contains-append_left cs.ended begins.0 c holds)
 
-pub was_put : (host : List ℕ) (path : PathParts) (bytes : List ℕ) (events : List Happened) → Put1 host path bytes events → WasPut host path bytes events
-was_put host path bytes events one = record {
+pub was_put : (base : BaseParts) (path : PathParts) (bytes : List ℕ) (events : List Happened) → Put1 base path bytes events → WasPut base path bytes events
+was_put base path bytes events one = record {
   connection = one.connection;
   among = contains_all (after_calls none_yet events) one.connection (one.ended none_yet);
   to_host = one.to_host;
@@ -223,10 +224,10 @@ was_put host path bytes events one = record {
 }
 
 -- what a drain leaves of the queue
-pub record Drained (host : List ℕ) (before now : Table) (events : List Happened) : Type 0 where
+pub record Drained (base : BaseParts) (before now : Table) (events : List Happened) : Type 0 where
   pub lost : (path : PathParts) (bytes : List ℕ) → IsLost before path bytes → IsLost now path bytes
-  pub each : (path : PathParts) (bytes : List ℕ) → IsQueued before path bytes → IsSafe host path bytes now events
+  pub each : (path : PathParts) (bytes : List ℕ) → IsQueued before path bytes → IsSafe base path bytes now events
 
-pub drained : (host : List ℕ) (before : Table) (answers : List Answer) (run : DrainRun) → IsWithin before → Drains host before answers run → Drained host before run.result.1 run.made
-drained host before answers run within does =
-    let all = empties host before answers run within does in record { lost = all.lost; each = all.each }
+pub drained : (base : BaseParts) (before : Table) (answers : List Answer) (run : DrainRun) → IsWithin before → Drains base before answers run → Drained base before run.result.1 run.made
+drained base before answers run within does =
+    let all = empties base before answers run within does in record { lost = all.lost; each = all.each }

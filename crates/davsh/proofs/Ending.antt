@@ -1,5 +1,5 @@
 -- How the parts of a run join.
-use Rattle.std.proofs.Common.{◌≡◌, ◌≢◌, ℕ, List, [], ◌∷◌, length, Bool, false, if◌then◌else◌, refl, sym, ◌∙◌, ap, subst}
+use Rattle.std.proofs.Common.{◌≡◌, ◌≢◌, inl, inr, ℕ, List, [], ◌∷◌, length, Bool, false, if◌then◌else◌, refl, sym, ◌∙◌, ap, subst}
 use Rattle.dav_machine.specs.Log.{any_failed}
 use Rattle.dav_machine.specs.Devices.{one_device}
 use Rattle.dav_machine.specs.Machine.{give, and_then, Reaches, Does}
@@ -7,7 +7,9 @@ use Rattle.dav_machine.proofs.Logs.{any_failed-append, grows_same, grows_then}
 use Rattle.dav_machine.proofs.Reaching.{reaches_then, reaches_next, reaches_same, as_reaches, does_lifted}
 use Rattle.dav_edge.specs.Device.{Happened, happened, Receive, Gives, DeviceLog, Grew, ByteMachine, given, is_failure}
 use Rattle.dav_edge.specs.Whole.{DoesOn, Sends}
+use Rattle.dav_text.specs.Reading.{top_path}
 use Rattle.dav_desk.specs.Table.{Table}
+use Rattle.dav_uri.specs.Target.{BaseParts}
 use Rattle.davsh.specs.declared.ended.Status.{Status}
 use Rattle.davsh.specs.declared.ended.Status.TheVariants as status
 use Rattle.davsh.specs.declared.stop.Stop.{Stop}
@@ -17,7 +19,7 @@ use Rattle.davsh.specs.Shell.{State, fresh_state, Shell}
 use Rattle.davsh.specs.Carrying.{HeardEnd, ReadsAll}
 use Rattle.davsh.specs.Drain.{Drains}
 use Rattle.dav_machine.specs.Part.{lift}
-use Rattle.davsh.specs.Run.{both, the_sink, the_wire, BothGrew, Ending, ending, with_table, without_memory, RunMachine, Says, words_end, input_end, memory_end, Starves, closing_status, left_text, Closes, tells, memory, after_drain, after_shell, RunsOn, Runs, refused, on, EndsSink, EndHeard, Ran}
+use Rattle.davsh.specs.Run.{both, the_sink, the_wire, BothGrew, Ending, ending, with_table, without_memory, RunMachine, Says, words_end, input_end, memory_end, Starves, closing_status, left_text, Closes, tells, memory, after_drain, after_shell, RunsOn, Runs, refused, unread, on, EndsSink, EndHeard, Ran}
 
 pub both_then : (o p q u v w : DeviceLog) (f g h : RunMachine) → Reaches both (BothGrew o p u v) f g → Reaches both (BothGrew p q v w) g h → Reaches both (BothGrew o q u w) f h
 both_then o p q u v w f g h one two =
@@ -55,57 +57,67 @@ pub closes_starved : (o p : DeviceLog) (st : State) (end : Ending) → EndsSink 
 closes_starved o p st end one u = as_reaches both (BothGrew o p u u) (Starves st) (give both end) (Closes st) (λ answers run does. memory does) (one u)
 
 -- the drain, and then the end
-pub finishes : (o p u v : DeviceLog) (host : List ℕ) (st : State) (table : Table) (drained : Bool) (end : Ending) → DoesOn u v (Drains host st.table) (drained, table) → EndsSink o p (after_drain (with_table st table) drained) end
-    → Does both (BothGrew o p u v) (after_shell host st End) end
-finishes o p u v host st table drained end draining ending_ =
+pub finishes : (o p u v : DeviceLog) (base : BaseParts) (st : State) (table : Table) (drained : Bool) (end : Ending) → DoesOn u v (Drains base st.table) (drained, table) → EndsSink o p (after_drain (with_table st table) drained) end
+    → Does both (BothGrew o p u v) (after_shell base st End) end
+finishes o p u v base st table drained end draining ending_ =
     let next : Bool × Table → RunMachine = λ r. after_drain (with_table st r.1) r.0 in
-    both_then o o p u v v (after_shell host st End) (next (drained, table)) (give both end)
-    (reaches_next both (BothGrew o o u v) (lift the_wire (Drains host st.table)) (drained, table) next (on_wire o u v (Drains host st.table) (drained, table) draining))
+    both_then o o p u v v (after_shell base st End) (next (drained, table)) (give both end)
+    (reaches_next both (BothGrew o o u v) (lift the_wire (Drains base st.table)) (drained, table) next (on_wire o u v (Drains base st.table) (drained, table) draining))
     (ending_ v)
 
 -- the words were refused
-pub ran_refused : (words : List (List ℕ)) (s o p u : DeviceLog) (line : List ℕ) (all : Bool) (end : Ending) → HasNoBase words → line ≡ words_end → DoesOn o p (Sends line) all → end ≡ ending status.Words fresh_state → Ran words s s o p u u end
+pub ran_refused : (words : List (List ℕ)) (s o p u : DeviceLog) (line : List ℕ) (all : Bool) (end : Ending) → HasNoBase words → line ≡ words_end → DoesOn o p (Sends line) all → end ≡ ending status.Words (fresh_state top_path) → Ran words s s o p u u end
 ran_refused words s o p u line all end none text one is = record {
   heard = [];
   grew = grows_same is_failure s;
   does = subst (λ (e : Ending). Does both (BothGrew o p u u) (Runs words [] false) e) (sym is)
-      (as_reaches both (BothGrew o p u u) (Says words_end (ending status.Words fresh_state)) (give both (ending status.Words fresh_state)) (Runs words [] false) (λ answers run does. refused none does)
-      (says o p u words_end all (ending status.Words fresh_state) (subst (λ (l : List ℕ). DoesOn o p (Sends l) all) text one)));
+      (as_reaches both (BothGrew o p u u) (Says words_end (ending status.Words (fresh_state top_path))) (give both (ending status.Words (fresh_state top_path))) (Runs words [] false) (λ answers run does. refused none does)
+      (says o p u words_end all (ending status.Words (fresh_state top_path)) (subst (λ (l : List ℕ). DoesOn o p (Sends l) all) text one)));
   ended = subst (λ (e : Ending). EndHeard e.0 []) (sym is) refl;
 }
+
+-- there was no memory to read the words
+pub ran_unread : (words : List (List ℕ)) (s o p u : DeviceLog) (st : State) (end : Ending) → st ≡ fresh_state top_path → EndsSink o p (Starves st) end → end.0 ≡ status.Memory → Ran words s s o p u u end
+ran_unread words s o p u st end fresh starving is =
+    let one : Does both (BothGrew o p u u) (Starves (fresh_state top_path)) end = subst (λ (t : State). Does both (BothGrew o p u u) (Starves t) end) fresh (starving u) in record {
+      heard = [];
+      grew = grows_same is_failure s;
+      does = as_reaches both (BothGrew o p u u) (Starves (fresh_state top_path)) (give both end) (Runs words [] false) (λ answers run does. unread refl refl does) one;
+      ended = subst (λ (x : Status). EndHeard x []) (sym is) (inl refl);
+    }
 
 -- the end was heard, and none failed
 pub heard_all : (s : Status) (heard : List Happened) → s ≢ status.Words → s ≢ status.Input → HeardEnd heard → EndHeard s heard
 heard_all status.Done heard words input ended = ended
 heard_all status.Faults heard words input ended = ended
-heard_all status.Memory heard words input ended = ended
+heard_all status.Memory heard words input ended = inr ended
 heard_all status.Words heard words input ended = absurd (words refl)
 heard_all status.Input heard words input ended = absurd (input refl)
 heard_all status.Output heard words input ended = ap (any_failed is_failure) ended.last ∙ any_failed-append is_failure ended.earlier (happened (Receive ended.room) (Gives []) ∷ []) ended.fine
 
 -- the shell stopped, and the run came to its end behind it
-pub ran_on : (words : List (List ℕ)) (host : List ℕ) (s t o p q u v : DeviceLog) (before st : State) (stop : Stop) (end : Ending) → IsBase words host → before ≡ fresh_state → (reads : ReadsAll s t o p before st stop)
-    → Does both (BothGrew p q u v) (after_shell host st stop) end → EndHeard end.0 reads.heard → Ran words s t o q u v end
-ran_on words host s t o p q u v before st stop end base fresh reads then_ ended =
+pub ran_on : (words : List (List ℕ)) (base : BaseParts) (s t o p q u v : DeviceLog) (before st : State) (stop : Stop) (end : Ending) → IsBase words base → before ≡ fresh_state base.path → (reads : ReadsAll s t o p before st stop)
+    → Does both (BothGrew p q u v) (after_shell base st stop) end → EndHeard end.0 reads.heard → Ran words s t o q u v end
+ran_on words base s t o p q u v before st stop end named fresh reads then_ ended =
     let bytes = given reads.heard in
     let failed = any_failed is_failure reads.heard in
-    let next : Stop × State → RunMachine = λ r. after_shell host r.1 r.0 in
-    let shell : DoesOn o p (Shell bytes failed [] fresh_state) (stop, st) = subst (λ (b : State). DoesOn o p (Shell bytes failed [] b) (stop, st)) fresh reads.does in
+    let next : Stop × State → RunMachine = λ r. after_shell base r.1 r.0 in
+    let shell : DoesOn o p (Shell bytes failed [] (fresh_state base.path)) (stop, st) = subst (λ (b : State). DoesOn o p (Shell bytes failed [] b) (stop, st)) fresh reads.does in
     record {
       heard = reads.heard;
       grew = reads.gave;
-      does = as_reaches both (BothGrew o q u v) (RunsOn host bytes failed) (give both end) (Runs words bytes failed) (λ answers run does. on host base does)
-          (both_then o p q u u v (RunsOn host bytes failed) (next (stop, st)) (give both end)
-          (reaches_next both (BothGrew o p u u) (lift the_sink (Shell bytes failed [] fresh_state)) (stop, st) next (on_sink o p u (Shell bytes failed [] fresh_state) (stop, st) shell))
+      does = as_reaches both (BothGrew o q u v) (RunsOn base bytes failed) (give both end) (Runs words bytes failed) (λ answers run does. on base named does)
+          (both_then o p q u u v (RunsOn base bytes failed) (next (stop, st)) (give both end)
+          (reaches_next both (BothGrew o p u u) (lift the_sink (Shell bytes failed [] (fresh_state base.path))) (stop, st) next (on_sink o p u (Shell bytes failed [] (fresh_state base.path)) (stop, st) shell))
           then_);
       ended = ended;
     }
 
-pub ends_output : (o u : DeviceLog) (host : List ℕ) (st : State) (end : Ending) → end ≡ ending status.Output st → Does both (BothGrew o o u u) (after_shell host st Output) end
-ends_output o u host st end is =
-    subst (λ (e : Ending). Does both (BothGrew o o u u) (after_shell host st Output) e) (sym is)
+pub ends_output : (o u : DeviceLog) (base : BaseParts) (st : State) (end : Ending) → end ≡ ending status.Output st → Does both (BothGrew o o u u) (after_shell base st Output) end
+ends_output o u base st end is =
+    subst (λ (e : Ending). Does both (BothGrew o o u u) (after_shell base st Output) e) (sym is)
     (reaches_same both (BothGrew o o u u) (give both (ending status.Output st)) (record { out = grows_same is_failure o; up = grows_same is_failure u }))
 
-pub ends_input : (o p u : DeviceLog) (host : List ℕ) (st : State) (line : List ℕ) (all : Bool) (end : Ending) → line ≡ input_end → DoesOn o p (Sends line) all → end ≡ ending status.Input st → Does both (BothGrew o p u u) (after_shell host st Input) end
-ends_input o p u host st line all end text one is =
-    subst (λ (e : Ending). Does both (BothGrew o p u u) (after_shell host st Input) e) (sym is) (says o p u input_end all (ending status.Input st) (subst (λ (l : List ℕ). DoesOn o p (Sends l) all) text one))
+pub ends_input : (o p u : DeviceLog) (base : BaseParts) (st : State) (line : List ℕ) (all : Bool) (end : Ending) → line ≡ input_end → DoesOn o p (Sends line) all → end ≡ ending status.Input st → Does both (BothGrew o p u u) (after_shell base st Input) end
+ends_input o p u base st line all end text one is =
+    subst (λ (e : Ending). Does both (BothGrew o p u u) (after_shell base st Input) e) (sym is) (says o p u input_end all (ending status.Input st) (subst (λ (l : List ℕ). DoesOn o p (Sends l) all) text one))

@@ -15,6 +15,7 @@ use Rattle.dav_frame.specs.declared.fault.FrameFault.{FrameFault}
 use Rattle.dav_frame.specs.declared.fault.FrameFault.TheVariants as faults
 use Rattle.dav_frame.specs.declared.phase.Phase.{Phase}
 use Rattle.dav_frame.specs.Framing.{Message, Outcome, Framing, Gives as GivesReply, Closes, Faults, Short}
+use Rattle.dav_uri.specs.Target.{BaseParts}
 use Rattle.dav_frame.specs.Reading.{FromPhase, Leads, Waits}
 use Rattle.davsh.specs.Exchange.{Heard, IsHeardOf, StaysOpen, Judged, whole, broken, short, memory, Ended, closed, cut, Hears, hears_if, Talks, Shuts, Exchanges, Uploads, put_text}
 use Rattle.davsh.specs.Exchange.{sends as sends_file, memory as no_memory}
@@ -136,23 +137,28 @@ talks_failed a b text sending = reaches_next one_device (Grew a b) (Sends text) 
 shuts : (a b : DeviceLog) (heard : Heard) → Grew a b (shut_down ∷ []) → DoesOn a b (Shuts heard) heard
 shuts a b heard grew = on_call a b (Shuts heard) (give one_device heard) shut_down grew (λ more run does. does)
 
-pub exchanges_whole : (a b c d : DeviceLog) (host text : List ℕ) (u : Unit {0}) (heard : Heard) → Grew a b (connected host 80 (Ok u) ∷ []) → DoesOn b c (Talks text) heard → Grew c d (shut_down ∷ [])
-    → DoesOn a d (Exchanges host text) heard
-exchanges_whole a b c d host text u heard connecting talking shutting =
-    on_then a b d (Exchanges host text) (and_then one_device (Talks text) Shuts) (give one_device heard)
-    (on_call a b (Exchanges host text) (and_then one_device (Talks text) Shuts) (happened (Connect host 80) Goes) connecting (λ more run does. does))
+pub exchanges_whole : (a b c d : DeviceLog) (base : BaseParts) (text host : List ℕ) (port : ℕ) (u : Unit {0}) (heard : Heard) → host ≡ base.host → port ≡ base.port → Grew a b (connected host port (Ok u) ∷ []) → DoesOn b c (Talks text) heard → Grew c d (shut_down ∷ [])
+    → DoesOn a d (Exchanges base text) heard
+exchanges_whole a b c d base text host port u heard to_host to_port connected_ talking shutting =
+    let connecting : Grew a b (connected base.host base.port (Ok u) ∷ []) =
+    subst (λ (h : List ℕ). Grew a b (connected h base.port (Ok u) ∷ [])) to_host (subst (λ (p : ℕ). Grew a b (connected host p (Ok u) ∷ [])) to_port connected_) in
+    on_then a b d (Exchanges base text) (and_then one_device (Talks text) Shuts) (give one_device heard)
+    (on_call a b (Exchanges base text) (and_then one_device (Talks text) Shuts) (happened (Connect base.host base.port) Goes) connecting (λ more run does. does))
     (on_then b c d (and_then one_device (Talks text) Shuts) (Shuts heard) (give one_device heard)
     (reaches_next one_device (Grew b c) (Talks text) heard Shuts talking)
     (shuts c d heard shutting))
 
-pub exchanges_failed : (a b : DeviceLog) (host text : List ℕ) (e : Failed) → Grew a b (connected host 80 (Err e) ∷ []) → DoesOn a b (Exchanges host text) (Ok None)
-exchanges_failed a b host text e connecting = on_call a b (Exchanges host text) (give one_device (Ok None)) (happened (Connect host 80) Fails) connecting (λ more run does. does)
+pub exchanges_failed : (a b : DeviceLog) (base : BaseParts) (text host : List ℕ) (port : ℕ) (e : Failed) → host ≡ base.host → port ≡ base.port → Grew a b (connected host port (Err e) ∷ []) → DoesOn a b (Exchanges base text) (Ok None)
+exchanges_failed a b base text host port e to_host to_port connected_ =
+    let connecting : Grew a b (connected base.host base.port (Err e) ∷ []) =
+    subst (λ (h : List ℕ). Grew a b (connected h base.port (Err e) ∷ [])) to_host (subst (λ (p : ℕ). Grew a b (connected host p (Err e) ∷ [])) to_port connected_) in
+    on_call a b (Exchanges base text) (give one_device (Ok None)) (happened (Connect base.host base.port) Fails) connecting (λ more run does. does)
 
-pub uploads_sent : (a b : DeviceLog) (host text : List ℕ) (path : PathParts) (bytes : List ℕ) (heard : Heard) → text ≡ put_text host path bytes → DoesOn a b (Exchanges host text) heard → DoesOn a b (Uploads host path bytes) heard
-uploads_sent a b host text path bytes heard is one =
-    as_reaches one_device (Grew a b) (Exchanges host (put_text host path bytes)) (give one_device heard) (Uploads host path bytes) (λ answers run does. sends_file does)
-    (subst (λ (t : List ℕ). DoesOn a b (Exchanges host t) heard) is one)
+pub uploads_sent : (a b : DeviceLog) (base : BaseParts) (text : List ℕ) (path : PathParts) (bytes : List ℕ) (heard : Heard) → text ≡ put_text base path bytes → DoesOn a b (Exchanges base text) heard → DoesOn a b (Uploads base path bytes) heard
+uploads_sent a b base text path bytes heard is one =
+    as_reaches one_device (Grew a b) (Exchanges base (put_text base path bytes)) (give one_device heard) (Uploads base path bytes) (λ answers run does. sends_file does)
+    (subst (λ (t : List ℕ). DoesOn a b (Exchanges base t) heard) is one)
 
-pub uploads_starved : (a : DeviceLog) (host : List ℕ) (path : PathParts) (bytes : List ℕ) (want : Memory) → DoesOn a a (Uploads host path bytes) (Err want)
-uploads_starved a host path bytes want =
-    reaches_as one_device (Grew a a) (Uploads host path bytes) (give one_device (Err want)) (Uploads host path bytes) (λ answers run does. no_memory want does) (on_same a (Uploads host path bytes))
+pub uploads_starved : (a : DeviceLog) (base : BaseParts) (path : PathParts) (bytes : List ℕ) (want : Memory) → DoesOn a a (Uploads base path bytes) (Err want)
+uploads_starved a base path bytes want =
+    reaches_as one_device (Grew a a) (Uploads base path bytes) (give one_device (Err want)) (Uploads base path bytes) (λ answers run does. no_memory want does) (on_same a (Uploads base path bytes))

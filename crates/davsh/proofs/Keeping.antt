@@ -1,5 +1,5 @@
 -- A whole run keeps what was closed last, and its status has its cause.
-use Rattle.std.proofs.Common.{◌≡◌, ◌≢◌, ◌⊎◌, inl, inr, ◌↔◌, ℕ, List, [], ◌∷◌, ◌++◌, map, length, Bool, true, false, not, ◌||◌, if◌then◌else◌, codes, refl, sym, ◌∙◌, ap, subst, append-nil}
+use Rattle.std.proofs.Common.{◌≡◌, ◌≢◌, ◌⊎◌, inl, inr, ◌↔◌, ℕ, List, [], ◌∷◌, ◌++◌, map, length, Bool, true, false, not, ◌||◌, if◌then◌else◌, Result, Ok, Err, refl, sym, ◌∙◌, ap, subst, append-nil}
 use Rattle.dav_machine.specs.Log.{any_failed, Rose}
 use Rattle.dav_machine.specs.Machine.{Run, run_with, prepend, give, and_then, Does}
 use Rattle.dav_machine.specs.Part.{lift}
@@ -10,19 +10,22 @@ use Rattle.dav_edge.specs.Device.{Receive, Fails, Gives, Happened, happened, Dev
 use Rattle.dav_edge.specs.Whole.{Sends}
 use Rattle.dav_edge.proofs.Sending.{sent_so}
 use Rattle.dav_text.specs.Path.{PathParts}
+use Rattle.dav_text.specs.Reading.{top_path}
 use Rattle.dav_desk.specs.Kept.{HoldsFile, file_of, lost_file_of, files_of, lost_files_of}
 use Rattle.dav_desk.specs.Table.{Table, IsWithin, IsQueued}
+use Rattle.dav_uri.specs.Target.{BaseParts, base_of}
+use Rattle.dav_uri.specs.declared.fault.UriFault.{UriFault}
 use Rattle.dav_desk.proofs.Laws.{fresh_is_within, fresh_queues_nothing}
 use Rattle.davsh.specs.declared.ended.Status.{Status}
 use Rattle.davsh.specs.declared.ended.Ended.{Ended}
 use Rattle.davsh.specs.declared.ended.Status.TheVariants as status
 use Rattle.davsh.specs.declared.stop.Stop.{Stop}
 use Rattle.davsh.specs.declared.stop.Stop.TheVariants as stops
-use Rattle.davsh.specs.Words.{IsBase, HasNoBase}
+use Rattle.davsh.specs.Words.{IsBase, HasNoBase, IsRefusal}
 use Rattle.davsh.specs.Carrying.{HeardEnd}
 use Rattle.davsh.specs.Line.{lines_of}
 use Rattle.davsh.specs.Shell.{State, fresh_state}
-use Rattle.davsh.specs.Run.{Made, Answers, answers_of, both, the_sink, BothGrew, Ending, ending, with_table, without_memory, Says, words_end, input_end, memory_end, Starves, closing_status, left_text, Closes, tells, memory, after_drain, after_shell, RunsOn, Runs, refused, on, EndHeard, Ran}
+use Rattle.davsh.specs.Run.{Made, Answers, answers_of, both, the_sink, BothGrew, Ending, ending, with_table, without_memory, Says, words_end, input_end, memory_end, Starves, closing_status, left_text, Closes, tells, memory, after_drain, after_shell, RunsOn, Runs, refused, unread, on, EndHeard, Ran}
 use Rattle.davsh.specs.Kept.{Told, line_of, Walks, IsLastClose, WasPut, IsKept, FaultsTold, AllRead, printed_by, last_text, Wrote, IsOfClose, SentOnce, WroteAnswers, IsWritten, NothingSent, Keeps}
 use Rattle.davsh.proofs.Telling.{shell_told}
 use Rattle.davsh.proofs.Requests.{IsPutOf, PutsOnce, puts_none, pairwise_weaker, drain_puts}
@@ -211,24 +214,24 @@ drained_end st true answers run does = closed_end st answers run does
 drained_end st false answers run does = starved_end st answers run does
 
 -- the run behind the input's end
-finish_end : (o p u v : DeviceLog) (host : List ℕ) (st : State) (end : Ending) (does : Does both (BothGrew o p u v) (after_shell host st stops.End) end)
+finish_end : (o p u v : DeviceLog) (base : BaseParts) (st : State) (end : Ending) (does : Does both (BothGrew o p u v) (after_shell base st stops.End) end)
     → (end.0 ≡ status.Words → ⊥) × (end.0 ≡ status.Input → ⊥)
-finish_end o p u v host st end does =
+finish_end o p u v base st end does =
     let run = run_with end both.nothing (answers_of [] []) in
-    let goes : after_shell host st stops.End (both.answered does.made (answers_of [] [])) (prepend both does.made run) = does.same (answers_of [] []) run refl in
+    let goes : after_shell base st stops.End (both.answered does.made (answers_of [] [])) (prepend both does.made run) = does.same (answers_of [] []) run refl in
     let last = drained_end (with_table st goes.before.result.1) goes.before.result.0 goes.before.left goes.after goes.goes_on in
     let is : end.0 ≡ goes.after.result.0 = ap (λ (r : EndRun). r.result.0) goes.whole in
     (λ h. last.not_words (sym is ∙ h), λ h. last.not_input (sym is ∙ h))
 
-pub finish_not_words : (o p u v : DeviceLog) (host : List ℕ) (st : State) (end : Ending) → Does both (BothGrew o p u v) (after_shell host st stops.End) end → end.0 ≢ status.Words
-finish_not_words o p u v host st end does = (finish_end o p u v host st end does).0
+pub finish_not_words : (o p u v : DeviceLog) (base : BaseParts) (st : State) (end : Ending) → Does both (BothGrew o p u v) (after_shell base st stops.End) end → end.0 ≢ status.Words
+finish_not_words o p u v base st end does = (finish_end o p u v base st end does).0
 
-pub finish_not_input : (o p u v : DeviceLog) (host : List ℕ) (st : State) (end : Ending) → Does both (BothGrew o p u v) (after_shell host st stops.End) end → end.0 ≢ status.Input
-finish_not_input o p u v host st end does = (finish_end o p u v host st end does).1
+pub finish_not_input : (o p u v : DeviceLog) (base : BaseParts) (st : State) (end : Ending) → Does both (BothGrew o p u v) (after_shell base st stops.End) end → end.0 ≢ status.Input
+finish_not_input o p u v base st end does = (finish_end o p u v base st end does).1
 
 -- the end of the run behind the shell
-record AfterShell (host : List ℕ) (stop : Stop) (st : State) (run : EndRun) : Type 0 where
-  kept : (path : PathParts) (bytes : List ℕ) → IsQueued st.table path bytes → IsKept host path bytes run.result.1 run.made.up
+record AfterShell (base : BaseParts) (stop : Stop) (st : State) (run : EndRun) : Type 0 where
+  kept : (path : PathParts) (bytes : List ℕ) → IsQueued st.table path bytes → IsKept base path bytes run.result.1 run.made.up
   done : run.result.1.done ≡ st.done
   starved : st.starved ≡ true → run.result.1.starved ≡ true
   starves : run.result.0 ≡ status.Memory → run.result.1.starved ≡ true
@@ -241,12 +244,12 @@ record AfterShell (host : List ℕ) (stop : Stop) (st : State) (run : EndRun) : 
   none : stop ≡ stops.Output → run.made.out ≡ []
   fine : is_closed run.result.0 ≡ true → any_failed is_failure run.made.out ≡ false
   still : run.result.0 ≡ status.Input → run.made.up ≡ []
-  puts : PutsOnce host st.table (connections_of run.made.up)
+  puts : PutsOnce base st.table (connections_of run.made.up)
 
-stopped : (host : List ℕ) (stop : Stop) (st : State) (s : Status) (run : EndRun) → run.result ≡ ending s st → (s ≡ status.Memory → ⊥) → (s ≡ status.Words → ⊥)
+stopped : (base : BaseParts) (stop : Stop) (st : State) (s : Status) (run : EndRun) → run.result ≡ ending s st → (s ≡ status.Memory → ⊥) → (s ≡ status.Words → ⊥)
     → (s ≡ status.Input → stop ≡ stops.Input) → (s ≡ status.Output → stop ≡ stops.Output) → (is_read s ≡ true → stop ≡ stops.End) → IsTold s st.faulty
-    → ((stop ≡ stops.Output → ⊥) → Wrote run.made.out (last_text run.result)) → (stop ≡ stops.Output → run.made.out ≡ []) → (is_closed s ≡ false) → run.made.up ≡ [] → AfterShell host stop st run
-stopped host stop st s run result not_memory not_words input output read faults wrote none unclosed silent =
+    → ((stop ≡ stops.Output → ⊥) → Wrote run.made.out (last_text run.result)) → (stop ≡ stops.Output → run.made.out ≡ []) → (is_closed s ≡ false) → run.made.up ≡ [] → AfterShell base stop st run
+stopped base stop st s run result not_memory not_words input output read faults wrote none unclosed silent =
     let is : run.result.0 ≡ s = ap (λ (e : Ending). e.0) result in record {
       kept = λ path bytes queued. inl (subst (λ (e : Ending). HoldsFile e.1.queued path bytes) (sym result) queued);
       done = ap (λ (e : Ending). e.1.done) result;
@@ -261,13 +264,13 @@ stopped host stop st s run result not_memory not_words input output read faults 
       none = none;
       fine = λ h. let x : false ≡ true = sym unclosed ∙ ap is_closed (sym is) ∙ h in absurd (cc);
       still = λ h. silent;
-      puts = subst (λ (l : List Happened). PutsOnce host st.table (connections_of l)) (sym silent) (puts_none host st.table);
+      puts = subst (λ (l : List Happened). PutsOnce base st.table (connections_of l)) (sym silent) (puts_none base st.table);
     }
 
-emptied : (host : List ℕ) (st : State) (answers : Answers) (run : EndRun) → IsWithin st.table → after_shell host st stops.End answers run → AfterShell host stops.End st run
-emptied host st answers run within does =
+emptied : (base : BaseParts) (st : State) (answers : Answers) (run : EndRun) → IsWithin st.table → after_shell base st stops.End answers run → AfterShell base stops.End st run
+emptied base st answers run within does =
     let below = does.begins.below in
-    let empty = drained host st.table answers.up below within does.begins.does in
+    let empty = drained base st.table answers.up below within does.begins.does in
     let first : does.before.result ≡ below.result = ap (λ (r : Run Made Answers (Bool × Table)). r.result) does.begins.is in
     let end = drained_end (with_table st does.before.result.1) does.before.result.0 does.before.left does.after does.goes_on in
     let result : run.result ≡ does.after.result = ap (λ (r : EndRun). r.result) does.whole in
@@ -284,7 +287,7 @@ emptied host st answers run within does =
       kept = λ path bytes queued. elim (empty.each path bytes queued) [
         | inl stays ↦ inl (subst (λ l. HoldsFile l path bytes) queue stays)
         | inr (inl lost) ↦ inr (inl (subst (λ l. HoldsFile l path bytes) gone lost))
-        | inr (inr put) ↦ inr (inr (subst (λ (l : List Happened). WasPut host path bytes l) (sym up) (was_put host path bytes (below.made ++ does.after.made.up) (put_first host path bytes below.made does.after.made.up put))))
+        | inr (inr put) ↦ inr (inr (subst (λ (l : List Happened). WasPut base path bytes l) (sym up) (was_put base path bytes (below.made ++ does.after.made.up) (put_first base path bytes below.made does.after.made.up put))))
       ];
       done = ap (λ (e : Ending). e.1.done) result ∙ end.ends.done;
       starved = λ h. ap (λ (e : Ending). e.1.starved) result ∙ end.ends.starved h;
@@ -298,20 +301,48 @@ emptied host st answers run within does =
       none = λ h. absurd (cc);
       fine = λ h. ap (any_failed is_failure) out ∙ end.fine (sym (ap is_closed status_is) ∙ h);
       still = λ h. absurd (end.not_input (sym status_is ∙ h));
-      puts = subst (λ (l : List Happened). PutsOnce host st.table (connections_of l))
+      puts = subst (λ (l : List Happened). PutsOnce base st.table (connections_of l))
           (sym (up ∙ ap (λ (l : List Happened). below.made ++ l) end.silent ∙ append-nil below.made))
-          (drain_puts host st.table answers.up below within does.begins.does);
+          (drain_puts base st.table answers.up below within does.begins.does);
     }
 
-after_stop : (host : List ℕ) (stop : Stop) (st : State) (answers : Answers) (run : EndRun) → IsWithin st.table → after_shell host st stop answers run → AfterShell host stop st run
-after_stop host stops.Output st answers run within does =
-    stopped host stops.Output st status.Output run (ap (λ (r : EndRun). r.result) does) (λ h. cc) (λ h. cc) (λ h. absurd (cc)) (λ h. refl) (λ h. absurd (cc)) tt
+after_stop : (base : BaseParts) (stop : Stop) (st : State) (answers : Answers) (run : EndRun) → IsWithin st.table → after_shell base st stop answers run → AfterShell base stop st run
+after_stop base stops.Output st answers run within does =
+    stopped base stops.Output st status.Output run (ap (λ (r : EndRun). r.result) does) (λ h. cc) (λ h. cc) (λ h. absurd (cc)) (λ h. refl) (λ h. absurd (cc)) tt
     (λ h. absurd (h refl)) (λ h. ap (λ (r : EndRun). r.made.out) does) refl (ap (λ (r : EndRun). r.made.up) does)
-after_stop host stops.Input st answers run within does =
+after_stop base stops.Input st answers run within does =
     let said = says input_end (λ all. ending status.Input st) answers run does in
-    stopped host stops.Input st status.Input run said.result (λ h. cc) (λ h. cc) (λ h. refl) (λ h. absurd (cc)) (λ h. absurd (cc)) tt
+    stopped base stops.Input st status.Input run said.result (λ h. cc) (λ h. cc) (λ h. refl) (λ h. absurd (cc)) (λ h. absurd (cc)) tt
     (λ h. wrote_as run.made.out run.made.out input_end (last_text run.result) refl (sym (ap last_text said.result)) said.wrote) (λ h. absurd (cc)) refl said.silent
-after_stop host stops.End st answers run within does = emptied host st answers run within does
+after_stop base stops.End st answers run within does = emptied base st answers run within does
+
+-- words name one base at most
+pub base_unique : (words : List (List ℕ)) (g h : BaseParts) → IsBase words g → IsBase words h → g ≡ h
+base_unique words g h one two =
+    let texts : one.text ≡ two.text = let same : one.text ∷ [] ≡ two.text ∷ [] = sym one.only ∙ two.only in cc in
+    let same : Ok g ≡ Ok h = sym one.read ∙ ap base_of texts ∙ two.read in cc
+
+-- where a shell stands, whether the words name a base or not
+pub record StandsAt (words : List (List ℕ)) : Type 0 where
+  pub current : PathParts
+  pub stands : (base : BaseParts) → IsBase words base → current ≡ base.path
+
+stands_by : (text : List ℕ) (r : Result BaseParts UriFault) → base_of text ≡ r → StandsAt (text ∷ [])
+stands_by text (Ok base) is = record {
+  current = base.path;
+  stands = λ other named. ap (λ (b : BaseParts). b.path) (base_unique (text ∷ []) base other (record { text = text; only = refl; read = is }) named);
+}
+stands_by text (Err fault) is = record {
+  current = top_path;
+  stands = λ other named.
+      let texts : text ≡ named.text = let h = named.only in cc in
+      let both : Err fault ≡ Ok other = sym is ∙ ap base_of texts ∙ named.read in absurd (cc);
+}
+
+pub stands_at : (words : List (List ℕ)) → StandsAt words
+stands_at [] = record { current = top_path; stands = λ base named. let h = named.only in absurd (cc) }
+stands_at (text ∷ []) = stands_by text (base_of text) refl
+stands_at (text ∷ more ∷ rest) = record { current = top_path; stands = λ base named. let h = named.only in absurd (cc) }
 
 -- What a run of the program comes to.
 record Outcome (words : List (List ℕ)) (bytes : List ℕ) (failed : Bool) (run : EndRun) : Type 0 where
@@ -320,10 +351,12 @@ record Outcome (words : List (List ℕ)) (bytes : List ℕ) (failed : Bool) (run
   rest : List (List ℕ)
   lines : lines_of bytes ≡ map line_of told ++ rest
   all : is_read run.result.0 ≡ true → rest ≡ []
-  answered : Walks fresh_state told last
+  current : PathParts
+  stands : (base : BaseParts) → IsBase words base → current ≡ base.path
+  answered : Walks (fresh_state current) told last
   done : last.done ≡ run.result.1.done
-  kept : (host : List ℕ) → IsBase words host → (path : PathParts) (bytes : List ℕ) → IsLastClose told path bytes → IsKept host path bytes run.result.1 run.made.up
-  refusal : (run.result.0 ≡ status.Words) ↔ HasNoBase words
+  kept : (base : BaseParts) → IsBase words base → (path : PathParts) (bytes : List ℕ) → IsLastClose told path bytes → IsKept base path bytes run.result.1 run.made.up
+  refusal : IsRefusal words run.result.0
   input : run.result.0 ≡ status.Input → failed ≡ true
   output : run.result.0 ≡ status.Output → any_failed is_failure run.made.out ≡ true
   starves : run.result.0 ≡ status.Memory → run.result.1.starved ≡ true
@@ -333,33 +366,35 @@ record Outcome (words : List (List ℕ)) (bytes : List ℕ) (failed : Bool) (run
   fine : is_closed run.result.0 ≡ true → any_failed is_failure run.made.out ≡ false
   apart : run.result.0 ≢ status.Output → WroteAnswers run.made.out (printed_by told)
   still : (run.result.0 ≡ status.Words) ⊎ (run.result.0 ≡ status.Input) → run.made.up ≡ []
-  sent : (host : List ℕ) → IsBase words host → SentOnce host told (connections_of run.made.up)
+  sent : (base : BaseParts) → IsBase words base → SentOnce base told (connections_of run.made.up)
 
 -- a faulty state is one in which a line answered a fault
-faults_told : (s : Status) (told : List Told) (last : State) → WalkFaults told fresh_state last → IsTold s last.faulty → FaultsTold s told
-faults_told status.Done told last walk is = λ any. let x : true ≡ false = sym (walk.has any) ∙ is in absurd (cc)
-faults_told status.Faults told last walk is = elim (walk.back is) [
+faults_told : (current : PathParts) (s : Status) (told : List Told) (last : State) → WalkFaults told (fresh_state current) last → IsTold s last.faulty → FaultsTold s told
+faults_told current status.Done told last walk is = λ any. let x : true ≡ false = sym (walk.has any) ∙ is in absurd (cc)
+faults_told current status.Faults told last walk is = elim (walk.back is) [
   | inl fresh ↦ let x : false ≡ true = fresh in absurd (cc)
   | inr any ↦ any
 ]
-faults_told status.Words told last walk is = tt
-faults_told status.Input told last walk is = tt
-faults_told status.Output told last walk is = tt
-faults_told status.Memory told last walk is = tt
+faults_told current status.Words told last walk is = tt
+faults_told current status.Input told last walk is = tt
+faults_told current status.Output told last walk is = tt
+faults_told current status.Memory told last walk is = tt
 
-refused_outcome : (words : List (List ℕ)) (bytes : List ℕ) (failed : Bool) (answers : Answers) (run : EndRun) → HasNoBase words → Says words_end (ending status.Words fresh_state) answers run → Outcome words bytes failed run
+refused_outcome : (words : List (List ℕ)) (bytes : List ℕ) (failed : Bool) (answers : Answers) (run : EndRun) → HasNoBase words → Says words_end (ending status.Words (fresh_state top_path)) answers run → Outcome words bytes failed run
 refused_outcome words bytes failed answers run none does =
-    let said = says words_end (λ all. ending status.Words fresh_state) answers run does in
+    let said = says words_end (λ all. ending status.Words (fresh_state top_path)) answers run does in
     let is : run.result.0 ≡ status.Words = ap (λ (e : Ending). e.0) said.result in record {
       told = [];
-      last = fresh_state;
+      last = fresh_state (stands_at words).current;
       rest = lines_of bytes;
       lines = refl;
       all = λ h. let x : false ≡ true = sym (ap is_read is) ∙ h in absurd (cc);
+      current = (stands_at words).current;
+      stands = (stands_at words).stands;
       answered = refl;
       done = sym (ap (λ (e : Ending). e.1.done) said.result);
-      kept = λ host base path b close. absurd close;
-      refusal = (λ h. none, λ h. is);
+      kept = λ base named path b close. absurd close;
+      refusal = record { refused = λ h. none; refuses = λ h. inl is };
       input = λ h. let x : status.Words ≡ status.Input = sym is ∙ h in absurd (cc);
       output = λ h. let x : status.Words ≡ status.Output = sym is ∙ h in absurd (cc);
       starves = λ h. let x : status.Words ≡ status.Memory = sym is ∙ h in absurd (cc);
@@ -369,27 +404,55 @@ refused_outcome words bytes failed answers run none does =
       fine = λ h. let x : false ≡ true = sym (ap is_closed is) ∙ h in absurd (cc);
       apart = λ other. record { before = []; behind = run.made.out; is = refl; fine = refl; took = refl };
       still = λ h. said.silent;
-      sent = λ host base. subst (λ (l : List Happened). SentOnce host [] (connections_of l)) (sym said.silent) (record { paths = []; differ = tt; each = tt });
+      sent = λ base named. subst (λ (l : List Happened). SentOnce base [] (connections_of l)) (sym said.silent) (record { paths = []; differ = tt; each = tt });
+    }
+
+unread_outcome : (words : List (List ℕ)) (bytes : List ℕ) (failed : Bool) (answers : Answers) (run : EndRun) → bytes ≡ [] → Starves (fresh_state top_path) answers run → Outcome words bytes failed run
+unread_outcome words bytes failed answers run none does =
+    let said = says memory_end (λ all. ending status.Memory (without_memory (fresh_state top_path))) answers run does in
+    let is : run.result.0 ≡ status.Memory = ap (λ (e : Ending). e.0) said.result in
+    let starved : run.result.1.starved ≡ true = ap (λ (e : Ending). e.1.starved) said.result in record {
+      told = [];
+      last = fresh_state (stands_at words).current;
+      rest = lines_of bytes;
+      lines = refl;
+      all = λ h. ap lines_of none;
+      current = (stands_at words).current;
+      stands = (stands_at words).stands;
+      answered = refl;
+      done = sym (ap (λ (e : Ending). e.1.done) said.result);
+      kept = λ base named path b close. absurd close;
+      refusal = record { refused = λ h. let x : status.Memory ≡ status.Words = sym is ∙ h in absurd (cc); refuses = λ h. inr is };
+      input = λ h. let x : status.Memory ≡ status.Input = sym is ∙ h in absurd (cc);
+      output = λ h. let x : status.Memory ≡ status.Output = sym is ∙ h in absurd (cc);
+      starves = λ h. starved;
+      starved = λ h. starved;
+      faults = subst (λ (s : Status). FaultsTold s []) (sym is) tt;
+      wrote = wrote_as run.made.out run.made.out memory_end (last_text run.result) refl (sym (ap last_text said.result)) said.wrote;
+      fine = λ h. let x : false ≡ true = sym (ap is_closed is) ∙ h in absurd (cc);
+      apart = λ other. record { before = []; behind = run.made.out; is = refl; fine = refl; took = refl };
+      still = λ h. said.silent;
+      sent = λ base named. subst (λ (l : List Happened). SentOnce base [] (connections_of l)) (sym said.silent) (record { paths = []; differ = tt; each = tt });
     }
 
 -- where the sink failed while a line was answered, that is the status
-stopped_output : (host : List ℕ) (stop : Stop) (st : State) (answers : Answers) (run : EndRun) → stop ≡ stops.Output → after_shell host st stop answers run → run.result.0 ≡ status.Output
-stopped_output host stops.Output st answers run is does = ap (λ (r : EndRun). r.result.0) does
-stopped_output host stops.Input st answers run is does = absurd (cc)
-stopped_output host stops.End st answers run is does = absurd (cc)
+stopped_output : (base : BaseParts) (stop : Stop) (st : State) (answers : Answers) (run : EndRun) → stop ≡ stops.Output → after_shell base st stop answers run → run.result.0 ≡ status.Output
+stopped_output base stops.Output st answers run is does = ap (λ (r : EndRun). r.result.0) does
+stopped_output base stops.Input st answers run is does = absurd (cc)
+stopped_output base stops.End st answers run is does = absurd (cc)
 
 -- a file that is queued behind the lines was closed last by one of them
-of_close : (host : List ℕ) (told : List Told) (last : State) → Walks fresh_state told last → (path : PathParts) (c : Connection) → IsPutOf host last.table path c → IsOfClose host told path c
-of_close host told last walks path c put = elim (walk_back told fresh_state last path put.bytes fresh_is_within walks put.queued) [
+of_close : (base : BaseParts) (current : PathParts) (told : List Told) (last : State) → Walks (fresh_state current) told last → (path : PathParts) (c : Connection) → IsPutOf base last.table path c → IsOfClose base told path c
+of_close base current told last walks path c put = elim (walk_back told (fresh_state current) last path put.bytes fresh_is_within walks put.queued) [
   | inl close ↦ record { bytes = put.bytes; close = close; begun = put.begun }
   | inr was ↦ absurd (fresh_queues_nothing path put.bytes was.0)
 ]
 
-once_of_closes : (host : List ℕ) (told : List Told) (last : State) (connections : List Connection) → Walks fresh_state told last → PutsOnce host last.table connections → SentOnce host told connections
-once_of_closes host told last connections walks puts = record {
+once_of_closes : (base : BaseParts) (current : PathParts) (told : List Told) (last : State) (connections : List Connection) → Walks (fresh_state current) told last → PutsOnce base last.table connections → SentOnce base told connections
+once_of_closes base current told last connections walks puts = record {
   paths = puts.paths;
   differ = puts.differ;
-  each = pairwise_weaker (IsPutOf host last.table) (IsOfClose host told) (of_close host told last walks) puts.paths connections puts.each;
+  each = pairwise_weaker (IsPutOf base last.table) (IsOfClose base told) (of_close base current told last walks) puts.paths connections puts.each;
 }
 
 -- the lines and what is behind them
@@ -411,33 +474,15 @@ closed_is_read status.Memory h = refl
 end_or_output : (stop : Stop) → stop ≡ stops.End → stop ≡ stops.Output → ⊥
 end_or_output stop one other = let x : stops.End ≡ stops.Output = sym one ∙ other in absurd (cc)
 
-nothing_last : (a : List ℕ) → a ++ 47 ∷ [] ≡ [] → ⊥
-nothing_last [] is = cc
-nothing_last (x ∷ a) is = cc
-
-slash_last : (a b : List ℕ) → a ++ 47 ∷ [] ≡ b ++ 47 ∷ [] → a ≡ b
-slash_last [] [] is = refl
-slash_last [] (y ∷ b) is = absurd (nothing_last b (let h : b ++ 47 ∷ [] ≡ [] = cc in h))
-slash_last (x ∷ a) [] is = absurd (nothing_last a (let h : a ++ 47 ∷ [] ≡ [] = cc in h))
-slash_last (x ∷ a) (y ∷ b) is =
-    let tails : a ++ 47 ∷ [] ≡ b ++ 47 ∷ [] = cc in
-    let heads : x ≡ y = cc in
-    ap (λ (z : ℕ). z ∷ a) heads ∙ ap (λ (l : List ℕ). y ∷ l) (slash_last a b tails)
-
-pub base_unique : (words : List (List ℕ)) (g h : List ℕ) → IsBase words g → IsBase words h → g ≡ h
-base_unique words g h one two =
-    let same : (codes "http://" ++ g ++ codes "/") ∷ [] ≡ (codes "http://" ++ h ++ codes "/") ∷ [] = sym one.only ∙ two.only in
-    slash_last g h (let tails : g ++ 47 ∷ [] ≡ h ++ 47 ∷ [] = cc in tails)
-
-on_outcome : (words : List (List ℕ)) (host bytes : List ℕ) (failed : Bool) (answers : Answers) (run : EndRun) → IsBase words host → RunsOn host bytes failed answers run → Outcome words bytes failed run
-on_outcome words host bytes failed answers run base does =
+on_outcome : (words : List (List ℕ)) (base : BaseParts) (bytes : List ℕ) (failed : Bool) (answers : Answers) (run : EndRun) → IsBase words base → RunsOn base bytes failed answers run → Outcome words bytes failed run
+on_outcome words base bytes failed answers run named does =
     let below = does.begins.below in
-    let told = shell_told bytes failed [] fresh_state answers.out below does.begins.does in
-    let walk = walk_keeps told.told fresh_state below.result.1 fresh_is_within told.walked in
+    let told = shell_told bytes failed [] (fresh_state base.path) answers.out below does.begins.does in
+    let walk = walk_keeps told.told (fresh_state base.path) below.result.1 fresh_is_within told.walked in
     let first : does.before.result ≡ below.result = ap (λ (r : Run Made Answers (Stop × State)). r.result) does.begins.is in
-    let goes : after_shell host below.result.1 below.result.0 does.before.left does.after =
-    subst (λ (r : Stop × State). after_shell host r.1 r.0 does.before.left does.after) first does.goes_on in
-    let end = after_stop host below.result.0 below.result.1 does.before.left does.after walk.within goes in
+    let goes : after_shell base below.result.1 below.result.0 does.before.left does.after =
+    subst (λ (r : Stop × State). after_shell base r.1 r.0 does.before.left does.after) first does.goes_on in
+    let end = after_stop base below.result.0 below.result.1 does.before.left does.after walk.within goes in
     let result : run.result ≡ does.after.result = ap (λ (r : EndRun). r.result) does.whole in
     let status_is : run.result.0 ≡ does.after.result.0 = ap (λ (e : Ending). e.0) result in
     let up : run.made.up ≡ does.after.made.up =
@@ -450,14 +495,16 @@ on_outcome words host bytes failed answers run base does =
       rest = told.rest;
       lines = told.lines_are;
       all = λ h. told.all (end.read (sym (ap is_read status_is) ∙ h));
+      current = base.path;
+      stands = λ other same. ap (λ (b : BaseParts). b.path) (base_unique words base other named same);
       answered = told.walked;
       done = sym end.done ∙ sym (ap (λ (e : Ending). e.1.done) result);
       kept = λ other same path b close.
-          subst (λ (h : List ℕ). IsKept h path b run.result.1 run.made.up) (base_unique words host other base same)
-          (subst (λ (e : Ending). IsKept host path b e.1 run.made.up) (sym result)
-          (subst (λ (l : List Happened). IsKept host path b does.after.result.1 l) (sym up)
+          subst (λ (h : BaseParts). IsKept h path b run.result.1 run.made.up) (base_unique words base other named same)
+          (subst (λ (e : Ending). IsKept base path b e.1 run.made.up) (sym result)
+          (subst (λ (l : List Happened). IsKept base path b does.after.result.1 l) (sym up)
           (end.kept path b (walk.last path b close))));
-      refusal = (λ h. absurd (end.not_words (sym status_is ∙ h)), λ none. absurd (none host base));
+      refusal = record { refused = λ h. absurd (end.not_words (sym status_is ∙ h)); refuses = λ none. absurd (none base named) };
       input = λ h. told.source (end.input (sym status_is ∙ h));
       output = λ h. elim (end.output (sym status_is ∙ h)) [
         | inl stop ↦ ap (any_failed is_failure) out ∙ any_first below.made does.after.made.out (told.sink stop)
@@ -466,7 +513,7 @@ on_outcome words host bytes failed answers run base does =
       starves = λ h. ap (λ (e : Ending). e.1.starved) result ∙ end.starves (sym status_is ∙ h);
       starved = λ h. ap (λ (e : Ending). e.1.starved) result ∙ end.starved h;
       faults = subst (λ (s : Status). FaultsTold s told.told) (sym status_is)
-          (faults_told does.after.result.0 told.told below.result.1 (walk_faults told.told fresh_state below.result.1 told.walked) end.faults);
+          (faults_told base.path does.after.result.0 told.told below.result.1 (walk_faults told.told (fresh_state base.path) below.result.1 told.walked) end.faults);
       wrote = wrote_as (below.made ++ does.after.made.out) run.made.out (printed_by told.told ++ last_text does.after.result) (printed_by told.told ++ last_text run.result)
           (sym out) (ap (λ (e : Ending). printed_by told.told ++ last_text e) (sym result))
           (wrote_all below.result.0 below.made does.after.made.out (printed_by told.told) (last_text does.after.result) told.fine told.sink told.wrote end.wrote end.none);
@@ -477,7 +524,7 @@ on_outcome words host bytes failed answers run base does =
           ∙ any_failed-append is_failure below.made does.after.made.out (told.fine (end_or_output below.result.0 stop))
           ∙ end.fine closed;
       apart = λ other.
-          let went = told.fine (λ is. other (status_is ∙ stopped_output host below.result.0 below.result.1 does.before.left does.after is goes)) in record {
+          let went = told.fine (λ is. other (status_is ∙ stopped_output base below.result.0 below.result.1 does.before.left does.after is goes)) in record {
             before = below.made;
             behind = does.after.made.out;
             is = out;
@@ -489,25 +536,26 @@ on_outcome words host bytes failed answers run base does =
         | inr bad_source ↦ up ∙ end.still (sym status_is ∙ bad_source)
       ];
       sent = λ other same.
-          subst (λ (h : List ℕ). SentOnce h told.told (connections_of run.made.up)) (base_unique words host other base same)
-          (subst (λ (l : List Happened). SentOnce host told.told (connections_of l)) (sym up)
-          (once_of_closes host told.told below.result.1 (connections_of does.after.made.up) told.walked end.puts));
+          subst (λ (h : BaseParts). SentOnce h told.told (connections_of run.made.up)) (base_unique words base other named same)
+          (subst (λ (l : List Happened). SentOnce base told.told (connections_of l)) (sym up)
+          (once_of_closes base base.path told.told below.result.1 (connections_of does.after.made.up) told.walked end.puts));
     }
 
 -- behind the shell no line is counted
-pub counted_behind : (host bytes : List ℕ) (failed : Bool) (answers : Answers) (run : EndRun) (does : RunsOn host bytes failed answers run) → run.result.1.done ≡ does.begins.below.result.1.done
-counted_behind host bytes failed answers run does =
+pub counted_behind : (base : BaseParts) (bytes : List ℕ) (failed : Bool) (answers : Answers) (run : EndRun) (does : RunsOn base bytes failed answers run) → run.result.1.done ≡ does.begins.below.result.1.done
+counted_behind base bytes failed answers run does =
     let below = does.begins.below in
-    let told = shell_told bytes failed [] fresh_state answers.out below does.begins.does in
-    let walk = walk_keeps told.told fresh_state below.result.1 fresh_is_within told.walked in
+    let told = shell_told bytes failed [] (fresh_state base.path) answers.out below does.begins.does in
+    let walk = walk_keeps told.told (fresh_state base.path) below.result.1 fresh_is_within told.walked in
     let first : does.before.result ≡ below.result = ap (λ (r : Run Made Answers (Stop × State)). r.result) does.begins.is in
-    let goes : after_shell host below.result.1 below.result.0 does.before.left does.after =
-    subst (λ (r : Stop × State). after_shell host r.1 r.0 does.before.left does.after) first does.goes_on in
-    ap (λ (r : EndRun). r.result.1.done) does.whole ∙ (after_stop host below.result.0 below.result.1 does.before.left does.after walk.within goes).done
+    let goes : after_shell base below.result.1 below.result.0 does.before.left does.after =
+    subst (λ (r : Stop × State). after_shell base r.1 r.0 does.before.left does.after) first does.goes_on in
+    ap (λ (r : EndRun). r.result.1.done) does.whole ∙ (after_stop base below.result.0 below.result.1 does.before.left does.after walk.within goes).done
 
 outcome : (words : List (List ℕ)) (bytes : List ℕ) (failed : Bool) (answers : Answers) (run : EndRun) → Runs words bytes failed answers run → Outcome words bytes failed run
 outcome words bytes failed answers run (refused none does) = refused_outcome words bytes failed answers run none does
-outcome words bytes failed answers run (on host base does) = on_outcome words host bytes failed answers run base does
+outcome words bytes failed answers run (unread none fine does) = unread_outcome words bytes failed answers run none does
+outcome words bytes failed answers run (on base named does) = on_outcome words base bytes failed answers run named does
 
 all_read : (s : Status) (rest : List (List ℕ)) → (is_read s ≡ true → rest ≡ []) → AllRead s rest
 all_read status.Done rest all = all refl
@@ -542,7 +590,8 @@ end_unfailed heard ended failed =
 source_failed : (s : Status) (heard : List Happened) → EndHeard s heard → (s ≡ status.Input) ↔ (any_failed is_failure heard ≡ true)
 source_failed status.Done heard ended = (λ is. cc, λ failed. absurd (end_unfailed heard ended failed))
 source_failed status.Faults heard ended = (λ is. cc, λ failed. absurd (end_unfailed heard ended failed))
-source_failed status.Memory heard ended = (λ is. cc, λ failed. absurd (end_unfailed heard ended failed))
+source_failed status.Memory heard (inl none) = (λ is. cc, λ failed. let no : false ≡ true = sym (ap (any_failed is_failure) none) ∙ failed in absurd (cc))
+source_failed status.Memory heard (inr ended) = (λ is. cc, λ failed. absurd (end_unfailed heard ended failed))
 source_failed status.Words heard ended = (λ is. cc, λ failed. let no : false ≡ true = sym (ap (any_failed is_failure) ended) ∙ failed in absurd (cc))
 source_failed status.Input heard ended =
     (λ is. ap (any_failed is_failure) ended.last ∙ any_failed-append is_failure ended.earlier (happened (Receive ended.room) Fails ∷ []) ended.fine, λ failed. refl)
@@ -572,6 +621,8 @@ keeps words s0 s1 o p u v end ran =
       source = source_failed end.0 ran.heard ran.ended;
       lines = all.lines;
       all = all_read end.0 all.rest all.all;
+      current = all.current;
+      stands = all.stands;
       answered = all.answered;
       wrote = all.wrote;
       written = is_written end.0 (ran.does.made.out ++ []) (printed_by all.told) all.fine all.output all.apart;
@@ -583,7 +634,7 @@ keeps words s0 s1 o p u v end ran =
       sent = all.sent;
     }
 
-pub words_refused : (words : List (List ℕ)) (s0 s1 o p u v : DeviceLog) (end : Ending) → Ran words s0 s1 o p u v end → (end.0 ≡ status.Words) ↔ HasNoBase words
+pub words_refused : (words : List (List ℕ)) (s0 s1 o p u v : DeviceLog) (end : Ending) → Ran words s0 s1 o p u v end → IsRefusal words end.0
 words_refused words s0 s1 o p u v end ran = (whole_of words s0 s1 o p u v end ran).refusal
 
 pub input_rose : (words : List (List ℕ)) (s0 s1 o p u v : DeviceLog) (end : Ending) → Ran words s0 s1 o p u v end → end.0 ≡ status.Input → Rose s0.faults s1.faults

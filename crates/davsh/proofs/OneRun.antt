@@ -7,6 +7,7 @@ use Rattle.dav_machine.specs.Part.{Part, lifted_run, lift}
 use Rattle.dav_edge.specs.Device.{Fails, Goes, Takes, Gives, Answer, Happened, ByteMachine}
 use Rattle.dav_edge.specs.Whole.{Sends}
 use Rattle.dav_text.specs.Path.{PathParts}
+use Rattle.dav_text.specs.Reading.{top_path}
 use Rattle.dav_text.specs.declared.memory.Memory.{Memory}
 use Rattle.dav_text.specs.declared.method.Method.TheVariants.{Put}
 use Rattle.dav_frame.specs.Framing.{Message, Framing, Gives as GivesReply, Closes as ClosesReply, Faults, Short}
@@ -19,6 +20,7 @@ use Rattle.dav_desk.specs.declared.answer.Answer.TheVariants.{Took, Idle, Settle
 use Rattle.dav_desk.specs.declared.answer.Job.{Job}
 use Rattle.dav_desk.specs.declared.ask.Ask.TheVariants.{Store, Take, Settle}
 use Rattle.dav_desk.specs.declared.fault.DeskFault.{DeskFault}
+use Rattle.dav_uri.specs.Target.{BaseParts}
 use Rattle.dav_desk.specs.declared.fault.DeskFault.TheVariants.{Limit}
 use Rattle.davsh.specs.declared.stop.Stop.{Stop}
 use Rattle.davsh.specs.declared.stop.Stop.TheVariants.{End, Input, Output}
@@ -27,7 +29,7 @@ use Rattle.davsh.specs.Line.{without_return, IsPut, IsNoPut}
 use Rattle.davsh.specs.Shell.{State, state, fresh_state, counted, faulted, starved, closed_line, syntax_line, limit_line, Answered, nothing, syntax, closed, limit, memory, Carries, goes_on, AtEnd, Shell}
 use Rattle.davsh.specs.Exchange.{Heard, StaysOpen, Judged, whole, broken, short, memory as no_memory, Ended, closed, cut, Hears, hears_if, Talks, Shuts, Exchanges, Uploads, sends, memory as not_sent}
 use Rattle.davsh.specs.Drain.{Drains, Turn, idle, memory as drain_memory, starved as drain_starved, turn, done_of}
-use Rattle.davsh.specs.Run.{Answers, both, the_sink, the_wire, Ending, ending, with_table, without_memory, RunMachine, Says, words_end, input_end, memory_end, Starves, closing_status, left_text, Closes, tells, memory as left_memory, after_drain, after_shell, RunsOn, Runs, refused, on}
+use Rattle.davsh.specs.Run.{Answers, both, the_sink, the_wire, Ending, ending, with_table, without_memory, RunMachine, Says, words_end, input_end, memory_end, Starves, closing_status, left_text, Closes, tells, memory as left_memory, after_drain, after_shell, RunsOn, Runs, refused, unread, on}
 use Rattle.davsh.specs.Kept.{Told, Walks}
 use Rattle.davsh.proofs.PutLines.{put_unique}
 use Rattle.davsh.proofs.Telling.{shell_told}
@@ -78,43 +80,43 @@ one_sends (b ∷ bs) Fed (Gives piece ∷ more) r q d e fr fq = absurd d
 
 -- What a line that asks for a store is answered, and the state then, by the desk's step.
 abbrev put_answer : State → PathParts → List ℕ → Stepped → List ℕ × State
-put_answer st path bytes (table, Ok answer) = (closed_line path (length bytes), state table st.faulty st.starved st.done)
+put_answer st path bytes (table, Ok answer) = (closed_line path (length bytes), state st.current table st.faulty st.starved st.done)
 put_answer st path bytes (table, Err (Limit which)) = (limit_line which, faulted st)
 put_answer st path bytes (table, Err other) = ([], st)
 
 starved_not : (before now : State) (P : Type 0) → now ≡ starved before → now.starved ≡ false → P
 starved_not before now P is fed = let h : true ≡ false = sym (ap (λ (s : State). s.starved) is) ∙ fed in absurd (cc)
 
-put_no_line : (path : PathParts) (bytes : List ℕ) → IsPut [] path bytes → ⊥
-put_no_line path bytes put = let h : [] ≡ codes "fput " ++ (put.target ++ 32 ∷ bytes) = put.spelled in absurd (cc)
+put_no_line : (current path : PathParts) (bytes : List ℕ) → IsPut current [] path bytes → ⊥
+put_no_line current path bytes put = let h : [] ≡ codes "fput " ++ (put.target ++ 32 ∷ bytes) = put.spelled in absurd (cc)
 
 empty_answer : (before now : State) (line printed : List ℕ) → line ≡ [] → Answered before line printed now → now.starved ≡ false → (printed ≡ []) × (now ≡ before)
 empty_answer before now line printed none (nothing empty text is) fed = (text, is)
 empty_answer before now line printed none (syntax some other text is) fed = absurd (some none)
-empty_answer before now line printed none (closed path bytes table answer put step text is) fed = absurd (put_no_line path bytes (subst (λ (l : List ℕ). IsPut l path bytes) none put))
-empty_answer before now line printed none (limit path bytes which put step text is) fed = absurd (put_no_line path bytes (subst (λ (l : List ℕ). IsPut l path bytes) none put))
+empty_answer before now line printed none (closed path bytes table answer put step text is) fed = absurd (put_no_line before.current path bytes (subst (λ (l : List ℕ). IsPut before.current l path bytes) none put))
+empty_answer before now line printed none (limit path bytes which put step text is) fed = absurd (put_no_line before.current path bytes (subst (λ (l : List ℕ). IsPut before.current l path bytes) none put))
 empty_answer before now line printed none (memory text is) fed = starved_not before now _ is fed
 
-syntax_answer : (before now : State) (line printed : List ℕ) → line ≢ [] → IsNoPut line → Answered before line printed now → now.starved ≡ false → (printed ≡ syntax_line) × (now ≡ faulted before)
+syntax_answer : (before now : State) (line printed : List ℕ) → line ≢ [] → IsNoPut before.current line → Answered before line printed now → now.starved ≡ false → (printed ≡ syntax_line) × (now ≡ faulted before)
 syntax_answer before now line printed some never (nothing empty text is) fed = absurd (some empty)
 syntax_answer before now line printed some never (syntax other none text is) fed = (text, is)
 syntax_answer before now line printed some never (closed path bytes table answer put step text is) fed = absurd (never path bytes put)
 syntax_answer before now line printed some never (limit path bytes which put step text is) fed = absurd (never path bytes put)
 syntax_answer before now line printed some never (memory text is) fed = starved_not before now _ is fed
 
-put_answered : (before now : State) (line printed : List ℕ) (path : PathParts) (bytes : List ℕ) → IsPut line path bytes → Answered before line printed now → now.starved ≡ false
+put_answered : (before now : State) (line printed : List ℕ) (path : PathParts) (bytes : List ℕ) → IsPut before.current line path bytes → Answered before line printed now → now.starved ≡ false
     → (printed ≡ (put_answer before path bytes (after before.table (Store path bytes))).0) × (now ≡ (put_answer before path bytes (after before.table (Store path bytes))).1)
-put_answered before now line printed path bytes put (nothing empty text is) fed = absurd (put_no_line path bytes (subst (λ (l : List ℕ). IsPut l path bytes) empty put))
+put_answered before now line printed path bytes put (nothing empty text is) fed = absurd (put_no_line before.current path bytes (subst (λ (l : List ℕ). IsPut before.current l path bytes) empty put))
 put_answered before now line printed path bytes put (syntax some none text is) fed = absurd (none path bytes put)
 put_answered before now line printed path bytes put (closed p b table answer other step text is) fed =
-    let one = put_unique line p path b bytes other put in
+    let one = put_unique before.current line p path b bytes other put in
     let here : after before.table (Store path bytes) ≡ (table, Ok answer) =
     ap (λ (x : PathParts). after before.table (Store x bytes)) (sym one.0) ∙ ap (λ (l : List ℕ). after before.table (Store p l)) (sym one.1) ∙ step in (
       text ∙ ap (λ (x : PathParts). closed_line x (length b)) one.0 ∙ ap (λ (l : List ℕ). closed_line path (length l)) one.1 ∙ ap (λ (s : Stepped). (put_answer before path bytes s).0) (sym here),
       is ∙ ap (λ (s : Stepped). (put_answer before path bytes s).1) (sym here),
     )
 put_answered before now line printed path bytes put (limit p b which other step text is) fed =
-    let one = put_unique line p path b bytes other put in
+    let one = put_unique before.current line p path b bytes other put in
     let here : after before.table (Store path bytes) ≡ (before.table, Err (Limit which)) =
     ap (λ (x : PathParts). after before.table (Store x bytes)) (sym one.0) ∙ ap (λ (l : List ℕ). after before.table (Store p l)) (sym one.1) ∙ step in (
       text ∙ ap (λ (s : Stepped). (put_answer before path bytes s).0) (sym here),
@@ -172,8 +174,8 @@ answer_fed before now line printed (memory text is) fed = starved_not before now
 
 walks_fed : (told : List Told) (before end : State) → Walks before told end → end.starved ≡ false → before.starved ≡ false
 walks_fed [] before end walks fed = sym (ap (λ (s : State). s.starved) walks) ∙ fed
-walks_fed (t ∷ told) before end (now, answered, inl (none, is)) fed = answer_fed before now t.line t.printed answered (sym (ap (λ (s : State). s.starved) is) ∙ fed)
-walks_fed (t ∷ told) before end (now, answered, inr walks) fed = answer_fed before now t.line t.printed answered (walks_fed told (counted now) end walks fed)
+walks_fed (t ∷ told) before end (now, answered, inl (none, is), here) fed = answer_fed before now t.line t.printed answered (sym (ap (λ (s : State). s.starved) is) ∙ fed)
+walks_fed (t ∷ told) before end (now, answered, inr walks, here) fed = answer_fed before now t.line t.printed answered (walks_fed told (counted now) end walks fed)
 
 pub shell_fed : (bytes : List ℕ) (failed : Bool) (begun : List ℕ) (st : State) (answers : List Answer) (r : Run (List Happened) (List Answer) (Stop × State)) → Shell bytes failed begun st answers r → r.result.1.starved ≡ false → st.starved ≡ false
 shell_fed bytes failed begun st answers r does fed =
@@ -306,19 +308,19 @@ shuts_fed heard (Gives piece ∷ more) r does fed = absurd does
 shuts_fed heard (Goes ∷ more) r does fed =
     subst (λ (run : HeardRun). HeardFed run.result) does.does (subst (λ (run : HeardRun). HeardFed run.result) does.is fed)
 
-one_exchanges : (host text : List ℕ) → One (Exchanges host text) HeardFed
-one_exchanges host text [] r q d e fr fq = absurd d
-one_exchanges host text (Fails ∷ more) r q d e fr fq = one_calls _ (give one_device (Ok None) more) HeardFed r q d e fr fq (λ x y c k fx fy. c ∙ sym k)
-one_exchanges host text (Takes n ∷ more) r q d e fr fq = absurd d
-one_exchanges host text (Gives piece ∷ more) r q d e fr fq = absurd d
-one_exchanges host text (Goes ∷ more) r q d e fr fq =
+one_exchanges : (base : BaseParts) (text : List ℕ) → One (Exchanges base text) HeardFed
+one_exchanges base text [] r q d e fr fq = absurd d
+one_exchanges base text (Fails ∷ more) r q d e fr fq = one_calls _ (give one_device (Ok None) more) HeardFed r q d e fr fq (λ x y c k fx fy. c ∙ sym k)
+one_exchanges base text (Takes n ∷ more) r q d e fr fq = absurd d
+one_exchanges base text (Gives piece ∷ more) r q d e fr fq = absurd d
+one_exchanges base text (Goes ∷ more) r q d e fr fq =
     one_calls _ (and_then one_device (Talks text) Shuts more) HeardFed r q d e fr fq
     (one_then one_device (Talks text) Shuts HeardFed HeardFed (one_talks text) one_shuts shuts_fed more)
 
-one_uploads : (host : List ℕ) (path : PathParts) (bytes : List ℕ) → One (Uploads host path bytes) HeardFed
-one_uploads host path bytes answers r q (sends d) (sends e) fr fq = one_exchanges host _ answers r q d e fr fq
-one_uploads host path bytes answers r q (sends d) (not_sent want gives) fr fq = starved_heard want answers q (r ≡ q) gives fq
-one_uploads host path bytes answers r q (not_sent want gives) e fr fq = starved_heard want answers r (r ≡ q) gives fr
+one_uploads : (base : BaseParts) (path : PathParts) (bytes : List ℕ) → One (Uploads base path bytes) HeardFed
+one_uploads base path bytes answers r q (sends d) (sends e) fr fq = one_exchanges base _ answers r q d e fr fq
+one_uploads base path bytes answers r q (sends d) (not_sent want gives) fr fq = starved_heard want answers q (r ≡ q) gives fq
+one_uploads base path bytes answers r q (not_sent want gives) e fr fq = starved_heard want answers r (r ≡ q) gives fr
 
 -- the drain
 abbrev DrainRun : Type 0
@@ -336,7 +338,7 @@ no_idle before now taken job P one two =
     let h : Ok Idle ≡ Ok (Took job) = ap answers (sym one ∙ two) in absurd (cc)
 
 -- two turns over the same table and answers
-record SameTurn (host : List ℕ) (before : Table) (answers : List Answer) (now other : Table) (sent more : HeardRun) : Type 0 where
+record SameTurn (base : BaseParts) (before : Table) (answers : List Answer) (now other : Table) (sent more : HeardRun) : Type 0 where
   tables : now ≡ other
   runs : sent ≡ more
 
@@ -351,12 +353,12 @@ same_came a b came other same one two =
 same_job : (i j : Job) (answer : Result DeskAnswer DeskFault) → answer ≡ Ok (Took i) → answer ≡ Ok (Took j) → i ≡ j
 same_job i j answer one two = cc
 
-same_turn : (host : List ℕ) (before : Table) (answers : List Answer) (now other : Table) (sent more : HeardRun) → Turn host before answers now sent → Turn host before answers other more → SameTurn host before answers now other sent more
-same_turn host before answers now other sent more one two =
+same_turn : (base : BaseParts) (before : Table) (answers : List Answer) (now other : Table) (sent more : HeardRun) → Turn base before answers now sent → Turn base before answers other more → SameTurn base before answers now other sent more
+same_turn base before answers now other sent more one two =
     let tables : one.taken ≡ two.taken = ap (λ (s : Stepped). s.0) (sym one.takes ∙ two.takes) in
     let jobs = same_job one.job two.job (after before Take).1 (ap (λ (s : Stepped). s.1) one.takes) (ap (λ (s : Stepped). s.1) two.takes) in
-    let uploads : Uploads host two.job.path two.job.bytes answers sent = subst (λ (j : Job). Uploads host j.path j.bytes answers sent) jobs one.uploads in
-    let runs : sent ≡ more = one_uploads host two.job.path two.job.bytes answers sent more uploads two.uploads (came_of sent one.came one.heard) (came_of more two.came two.heard) in
+    let uploads : Uploads base two.job.path two.job.bytes answers sent = subst (λ (j : Job). Uploads base j.path j.bytes answers sent) jobs one.uploads in
+    let runs : sent ≡ more = one_uploads base two.job.path two.job.bytes answers sent more uploads two.uploads (came_of sent one.came one.heard) (came_of more two.came two.heard) in
     let came : one.came ≡ two.came = same_came sent more one.came two.came runs one.heard two.heard in
     let settling : after two.taken (Settle two.job.number (done_of two.came)) ≡ (now, Ok (Settled one.fated)) =
     ap (λ (c : Option ℕ). after two.taken (Settle two.job.number (done_of c))) (sym came)
@@ -365,33 +367,33 @@ same_turn host before answers now other sent more one two =
     ∙ one.settles in
     record { tables = ap (λ (s : Stepped). s.0) (sym settling ∙ two.settles); runs = runs }
 
-turn_then : (now other : Table) (sent more : HeardRun) (host : List ℕ) (r q rest later : DrainRun) → now ≡ other → sent ≡ more → r ≡ prepend one_device sent.made rest → q ≡ prepend one_device more.made later
-    → ((x : DrainRun) → Drains host now sent.left x → DrainFed x.result → rest ≡ x) → Drains host other more.left later → DrainFed q.result → r ≡ q
-turn_then now other sent more host r q rest later tables runs is also same drains fed =
-    let back : Drains host now sent.left later = subst (λ (s : HeardRun). Drains host now s.left later) (sym runs) (subst (λ (t : Table). Drains host t more.left later) (sym tables) drains) in
+turn_then : (now other : Table) (sent more : HeardRun) (base : BaseParts) (r q rest later : DrainRun) → now ≡ other → sent ≡ more → r ≡ prepend one_device sent.made rest → q ≡ prepend one_device more.made later
+    → ((x : DrainRun) → Drains base now sent.left x → DrainFed x.result → rest ≡ x) → Drains base other more.left later → DrainFed q.result → r ≡ q
+turn_then now other sent more base r q rest later tables runs is also same drains fed =
+    let back : Drains base now sent.left later = subst (λ (s : HeardRun). Drains base now s.left later) (sym runs) (subst (λ (t : Table). Drains base t more.left later) (sym tables) drains) in
     is ∙ ap (prepend one_device sent.made) (same later back (sym (ap (λ (run : DrainRun). run.result.0) also) ∙ fed)) ∙ ap (λ (s : HeardRun). prepend one_device s.made later) runs ∙ sym also
 
-idle_or : (host : List ℕ) (before : Table) (answers : List Answer) (r q : DrainRun) → after before Take ≡ (before, Ok Idle) → give one_device (true, before) answers r → Drains host before answers q → q.result.0 ≡ true → r ≡ q
-idle_or host before answers r q none gives (idle t a x also too) fq = gives ∙ sym too
-idle_or host before answers r q none gives (drain_memory t a x too) fq = not_drained t [] a x (r ≡ x) too fq
-idle_or host before answers r q none gives (drain_starved t a x now sent s is) fq = not_drained now sent.made sent.left x (r ≡ x) is fq
-idle_or host before answers r q none gives (turn t a x now sent rest one goes is) fq = no_idle t t one.taken one.job (r ≡ x) none one.takes
+idle_or : (base : BaseParts) (before : Table) (answers : List Answer) (r q : DrainRun) → after before Take ≡ (before, Ok Idle) → give one_device (true, before) answers r → Drains base before answers q → q.result.0 ≡ true → r ≡ q
+idle_or base before answers r q none gives (idle t a x also too) fq = gives ∙ sym too
+idle_or base before answers r q none gives (drain_memory t a x too) fq = not_drained t [] a x (r ≡ x) too fq
+idle_or base before answers r q none gives (drain_starved t a x now sent s is) fq = not_drained now sent.made sent.left x (r ≡ x) is fq
+idle_or base before answers r q none gives (turn t a x now sent rest one goes is) fq = no_idle t t one.taken one.job (r ≡ x) none one.takes
 
-turn_or : (host : List ℕ) (before : Table) (answers : List Answer) (r q : DrainRun) (now : Table) (sent : HeardRun) (rest : DrainRun) → Turn host before answers now sent → r ≡ prepend one_device sent.made rest
-    → ((x : DrainRun) → Drains host now sent.left x → DrainFed x.result → rest ≡ x) → Drains host before answers q → q.result.0 ≡ true → r ≡ q
-turn_or host before answers r q now sent rest one is same (idle t a x none too) fq = no_idle t t one.taken one.job (r ≡ x) none one.takes
-turn_or host before answers r q now sent rest one is same (drain_memory t a x too) fq = not_drained t [] a x (r ≡ x) too fq
-turn_or host before answers r q now sent rest one is same (drain_starved t a x other more s also) fq = not_drained other more.made more.left x (r ≡ x) also fq
-turn_or host before answers r q now sent rest one is same (turn t a x other more later two goes also) fq =
-    let turns = same_turn host t a now other sent more one two in
-    turn_then now other sent more host r x rest later turns.tables turns.runs is also same goes fq
+turn_or : (base : BaseParts) (before : Table) (answers : List Answer) (r q : DrainRun) (now : Table) (sent : HeardRun) (rest : DrainRun) → Turn base before answers now sent → r ≡ prepend one_device sent.made rest
+    → ((x : DrainRun) → Drains base now sent.left x → DrainFed x.result → rest ≡ x) → Drains base before answers q → q.result.0 ≡ true → r ≡ q
+turn_or base before answers r q now sent rest one is same (idle t a x none too) fq = no_idle t t one.taken one.job (r ≡ x) none one.takes
+turn_or base before answers r q now sent rest one is same (drain_memory t a x too) fq = not_drained t [] a x (r ≡ x) too fq
+turn_or base before answers r q now sent rest one is same (drain_starved t a x other more s also) fq = not_drained other more.made more.left x (r ≡ x) also fq
+turn_or base before answers r q now sent rest one is same (turn t a x other more later two goes also) fq =
+    let turns = same_turn base t a now other sent more one two in
+    turn_then now other sent more base r x rest later turns.tables turns.runs is also same goes fq
 
-one_drains : (host : List ℕ) (before : Table) (answers : List Answer) (r q : DrainRun) → Drains host before answers r → Drains host before answers q → r.result.0 ≡ true → q.result.0 ≡ true → r ≡ q
-one_drains host before answers r q (idle t a x none gives) e fr fq = idle_or host t a x q none gives e fq
-one_drains host before answers r q (drain_memory t a x gives) e fr fq = not_drained t [] a x (x ≡ q) gives fr
-one_drains host before answers r q (drain_starved t a x now sent s is) e fr fq = not_drained now sent.made sent.left x (x ≡ q) is fr
-one_drains host before answers r q (turn t a x now sent rest one goes is) e fr fq =
-    turn_or host t a x q now sent rest one is (λ y d f. one_drains host now sent.left rest y goes d (sym (ap (λ (run : DrainRun). run.result.0) is) ∙ fr) f) e fq
+one_drains : (base : BaseParts) (before : Table) (answers : List Answer) (r q : DrainRun) → Drains base before answers r → Drains base before answers q → r.result.0 ≡ true → q.result.0 ≡ true → r ≡ q
+one_drains base before answers r q (idle t a x none gives) e fr fq = idle_or base t a x q none gives e fq
+one_drains base before answers r q (drain_memory t a x gives) e fr fq = not_drained t [] a x (x ≡ q) gives fr
+one_drains base before answers r q (drain_starved t a x now sent s is) e fr fq = not_drained now sent.made sent.left x (x ≡ q) is fr
+one_drains base before answers r q (turn t a x now sent rest one goes is) e fr fq =
+    turn_or base t a x q now sent rest one is (λ y d f. one_drains base now sent.left rest y goes d (sym (ap (λ (run : DrainRun). run.result.0) is) ∙ fr) f) e fq
 
 -- the end of a run
 abbrev EndFed : Ending → Type 0
@@ -401,7 +403,7 @@ one_says : (line : List ℕ) (end : Ending) → One (Says line end) EndFed
 one_says line end =
     one_then both (lift the_sink (Sends line)) (λ all. give both end) AnyResult EndFed (one_lift one_device both the_sink (Sends line) AnyResult (one_sends line AnyResult)) (λ all. one_give both end EndFed) (λ all answers run does fed. tt)
 
-starves_not : (st : State) (answers : Answers) (r : EndRun) (P : Type 0) → Starves st answers r → r.result.1.starved ≡ false → P
+pub starves_not : (st : State) (answers : Answers) (r : EndRun) (P : Type 0) → Starves st answers r → r.result.1.starved ≡ false → P
 starves_not st answers r P does fed =
     let said = says memory_end (λ all. ending status.Memory (without_memory st)) answers r does in
     let h : true ≡ false = sym (ap (λ (e : Ending). e.1.starved) said.result) ∙ fed in absurd (cc)
@@ -423,36 +425,38 @@ drain_fed : (st : State) (x : Bool × Table) (answers : Answers) (r : EndRun) �
 drain_fed st (true, table) answers r does fed = refl
 drain_fed st (false, table) answers r does fed = starves_not (with_table st table) answers r (false ≡ true) does fed
 
-one_after_shell : (host : List ℕ) (st : State) (stop : Stop) → One (after_shell host st stop) EndFed
-one_after_shell host st Output = one_give both (ending status.Output st) EndFed
-one_after_shell host st Input = one_says input_end (ending status.Input st)
-one_after_shell host st End =
-    one_then both (lift the_wire (Drains host st.table)) (λ r. after_drain (with_table st r.1) r.0) DrainFed EndFed
-    (one_lift one_device both the_wire (Drains host st.table) DrainFed (one_drains host st.table)) (λ x. one_after_drain (with_table st x.1) x.0) (drain_fed st)
+one_after_shell : (base : BaseParts) (st : State) (stop : Stop) → One (after_shell base st stop) EndFed
+one_after_shell base st Output = one_give both (ending status.Output st) EndFed
+one_after_shell base st Input = one_says input_end (ending status.Input st)
+one_after_shell base st End =
+    one_then both (lift the_wire (Drains base st.table)) (λ r. after_drain (with_table st r.1) r.0) DrainFed EndFed
+    (one_lift one_device both the_wire (Drains base st.table) DrainFed (one_drains base st.table)) (λ x. one_after_drain (with_table st x.1) x.0) (drain_fed st)
 
 unstarved : (b c : Bool) → (b ≡ true → c ≡ true) → c ≡ false → b ≡ false
 unstarved true c f fed = let h : true ≡ false = sym (f refl) ∙ fed in absurd (cc)
 unstarved false c f fed = refl
 
-pub after_shell_fed : (host : List ℕ) (st : State) (stop : Stop) (answers : Answers) (r : EndRun) → after_shell host st stop answers r → EndFed r.result → st.starved ≡ false
-after_shell_fed host st Output answers r does fed = sym (ap (λ (run : EndRun). run.result.1.starved) does) ∙ fed
-after_shell_fed host st Input answers r does fed =
+pub after_shell_fed : (base : BaseParts) (st : State) (stop : Stop) (answers : Answers) (r : EndRun) → after_shell base st stop answers r → EndFed r.result → st.starved ≡ false
+after_shell_fed base st Output answers r does fed = sym (ap (λ (run : EndRun). run.result.1.starved) does) ∙ fed
+after_shell_fed base st Input answers r does fed =
     let said = says input_end (λ all. ending status.Input st) answers r does in sym (ap (λ (e : Ending). e.1.starved) said.result) ∙ fed
-after_shell_fed host st End answers r does fed =
+after_shell_fed base st End answers r does fed =
     let end = drained_end (with_table st does.before.result.1) does.before.result.0 does.before.left does.after does.goes_on in
     unstarved st.starved does.after.result.1.starved end.ends.starved (sym (ap (λ (run : EndRun). run.result.1.starved) does.whole) ∙ fed)
 
-one_runs_on : (host bytes : List ℕ) (failed : Bool) → One (RunsOn host bytes failed) EndFed
-one_runs_on host bytes failed =
-    one_then both (lift the_sink (Shell bytes failed [] fresh_state)) (λ r. after_shell host r.1 r.0) StopFed EndFed
-    (one_lift one_device both the_sink (Shell bytes failed [] fresh_state) StopFed (one_shell bytes failed [] fresh_state))
-    (λ x. one_after_shell host x.1 x.0) (λ x. after_shell_fed host x.1 x.0)
+one_runs_on : (base : BaseParts) (bytes : List ℕ) (failed : Bool) → One (RunsOn base bytes failed) EndFed
+one_runs_on base bytes failed =
+    one_then both (lift the_sink (Shell bytes failed [] (fresh_state base.path))) (λ r. after_shell base r.1 r.0) StopFed EndFed
+    (one_lift one_device both the_sink (Shell bytes failed [] (fresh_state base.path)) StopFed (one_shell bytes failed [] (fresh_state base.path)))
+    (λ x. one_after_shell base x.1 x.0) (λ x. after_shell_fed base x.1 x.0)
 
 -- the run is the only one of these words, this input and these answers that no want of memory met
 pub one_run : (words : List (List ℕ)) (bytes : List ℕ) (failed : Bool) (answers : Answers) (r q : EndRun) → Runs words bytes failed answers r → Runs words bytes failed answers q
     → r.result.1.starved ≡ false → q.result.1.starved ≡ false → r ≡ q
-one_run words bytes failed answers r q (refused none d) (refused too e) fr fq = one_says words_end (ending status.Words fresh_state) answers r q d e fr fq
-one_run words bytes failed answers r q (refused none d) (on host base e) fr fq = absurd (none host base)
-one_run words bytes failed answers r q (on host base d) (refused none e) fr fq = absurd (none host base)
-one_run words bytes failed answers r q (on host base d) (on other too e) fr fq =
-    one_runs_on other bytes failed answers r q (subst (λ (h : List ℕ). RunsOn h bytes failed answers r) (base_unique words host other base too) d) e fr fq
+one_run words bytes failed answers r q (refused none d) (refused too e) fr fq = one_says words_end (ending status.Words (fresh_state top_path)) answers r q d e fr fq
+one_run words bytes failed answers r q (unread none fine d) e fr fq = starves_not (fresh_state top_path) answers r (r ≡ q) d fr
+one_run words bytes failed answers r q d (unread none fine e) fr fq = starves_not (fresh_state top_path) answers q (r ≡ q) e fq
+one_run words bytes failed answers r q (refused none d) (on base named e) fr fq = absurd (none base named)
+one_run words bytes failed answers r q (on base named d) (refused none e) fr fq = absurd (none base named)
+one_run words bytes failed answers r q (on base named d) (on other too e) fr fq =
+    one_runs_on other bytes failed answers r q (subst (λ (h : BaseParts). RunsOn h bytes failed answers r) (base_unique words base other named too) d) e fr fq

@@ -2,7 +2,7 @@
 use Rattle.std.proofs.Common.{◌≡◌, ◌≢◌, ◌<◌, ◌≤◌, ◌+◌, ℕ, zero, suc, List, [], ◌∷◌, ◌++◌, length, take, drop, get_or, Ok, true, false, refl, sym, ◌∙◌, ap, subst, arith, codes, add-one}
 use Rattle.std.specs.Str.{IsUtf8}
 use Rattle.dav_text.specs.Path.{PathParts}
-use Rattle.dav_text.specs.Reading.{top_path, typed_of}
+use Rattle.dav_text.specs.Reading.{typed_of}
 use Rattle.davsh.specs.Line.{IsUnbroken, IsFirstBlank, IsArgument, IsFileWord, IsPut, IsNoPut, IsSplit}
 
 -- behind words without a blank the first blank is where they end
@@ -17,25 +17,25 @@ split_unique (x ∷ a) b (y ∷ c) d one two same =
     (ap (λ (z : ℕ). z ∷ a) heads ∙ ap (λ (l : List ℕ). y ∷ l) rest.0, rest.1)
 
 -- two readings of a line as a store are one
-pub put_unique : (line : List ℕ) (p q : PathParts) (b c : List ℕ) → IsPut line p b → IsPut line q c → (p ≡ q) × (b ≡ c)
-put_unique line p q b c one two =
+pub put_unique : (current : PathParts) (line : List ℕ) (p q : PathParts) (b c : List ℕ) → IsPut current line p b → IsPut current line q c → (p ≡ q) × (b ≡ c)
+put_unique current line p q b c one two =
     let same : one.target ++ 32 ∷ b ≡ two.target ++ 32 ∷ c = let h = sym one.spelled ∙ two.spelled in cc in
     let parts = split_unique one.target b two.target c one.unbroken two.unbroken same in
-    ((let h : Ok p ≡ Ok q = sym one.word.typed ∙ ap (typed_of top_path) parts.0 ∙ two.word.typed in cc), parts.1)
+    ((let h : Ok p ≡ Ok q = sym one.word.typed ∙ ap (typed_of current) parts.0 ∙ two.word.typed in cc), parts.1)
 
 -- a split line whose word names no file is no store
-pub split_no_path : (line target bytes : List ℕ) → IsSplit line target bytes → ((path : PathParts) → IsFileWord target path → ⊥) → IsNoPut line
-split_no_path line target bytes split none path b put =
+pub split_no_path : (current : PathParts) (line target bytes : List ℕ) → IsSplit line target bytes → ((path : PathParts) → IsFileWord current target path → ⊥) → IsNoPut current line
+split_no_path current line target bytes split none path b put =
     let same : target ++ 32 ∷ bytes ≡ put.target ++ 32 ∷ b = let h = sym split.spelled ∙ put.spelled in cc in
     let parts = split_unique target bytes put.target b split.unbroken put.unbroken same in
-    none path (subst (λ (word : List ℕ). IsFileWord word path) (sym parts.0) put.word)
+    none path (subst (λ (word : List ℕ). IsFileWord current word path) (sym parts.0) put.word)
 
 has_blank : (target bytes : List ℕ) → IsUnbroken (target ++ 32 ∷ bytes) → ⊥
 has_blank [] bytes all = all.0 refl
 has_blank (b ∷ target) bytes all = has_blank target bytes all.1
 
-pub unbroken_no_put : (line words : List ℕ) → line ≡ codes "fput " ++ words → IsUnbroken words → IsNoPut line
-unbroken_no_put line words is all path b put =
+pub unbroken_no_put : (line words : List ℕ) → line ≡ codes "fput " ++ words → IsUnbroken words → (current : PathParts) → IsNoPut current line
+unbroken_no_put line words is all current path b put =
     let same : words ≡ put.target ++ 32 ∷ b = let h = sym is ∙ put.spelled in cc in
     has_blank put.target b (subst IsUnbroken same all)
 
@@ -62,16 +62,16 @@ blank_split line words at is first = (
 )
 
 -- a line is no store where what stands behind the first blank can't be stored
-pub blank_no_argument : (line words : List ℕ) (at : ℕ) → line ≡ codes "fput " ++ words → IsFirstBlank words at → (IsArgument (drop (at + 1) words) → ⊥) → IsNoPut line
-blank_no_argument line words at is first bad path b put =
+pub blank_no_argument : (line words : List ℕ) (at : ℕ) → line ≡ codes "fput " ++ words → IsFirstBlank words at → (IsArgument (drop (at + 1) words) → ⊥) → (current : PathParts) → IsNoPut current line
+blank_no_argument line words at is first bad current path b put =
     let split = blank_split line words at is first in
     let same : take at words ++ 32 ∷ drop (at + 1) words ≡ put.target ++ 32 ∷ b = let h = sym split.0 ∙ put.spelled in cc in
     let parts = split_unique (take at words) (drop (at + 1) words) put.target b split.1 put.unbroken same in
     bad (subst IsArgument (sym parts.1) put.argument)
 
 -- nor where what stands before it is no text
-pub blank_no_path : (line words : List ℕ) (at : ℕ) → line ≡ codes "fput " ++ words → IsFirstBlank words at → (IsUtf8 (take at words) → ⊥) → IsNoPut line
-blank_no_path line words at is first bad path b put =
+pub blank_no_path : (line words : List ℕ) (at : ℕ) → line ≡ codes "fput " ++ words → IsFirstBlank words at → (IsUtf8 (take at words) → ⊥) → (current : PathParts) → IsNoPut current line
+blank_no_path line words at is first bad current path b put =
     let split = blank_split line words at is first in
     let same : take at words ++ 32 ∷ drop (at + 1) words ≡ put.target ++ 32 ∷ b = let h = sym split.0 ∙ put.spelled in cc in
     let parts = split_unique (take at words) (drop (at + 1) words) put.target b split.1 put.unbroken same in

@@ -10,6 +10,7 @@ use Rattle.dav_edge.proofs.Connecting.{after_calls-append}
 use Rattle.dav_edge.proofs.Sending.{sent_so, sends_standing}
 use Rattle.dav_text.specs.declared.memory.Memory.{Memory}
 use Rattle.dav_text.specs.declared.method.Method.TheVariants.{Put}
+use Rattle.dav_uri.specs.Target.{BaseParts}
 use Rattle.dav_frame.specs.Framing.{Message, Framing, Gives as GivesReply, Closes}
 use Rattle.davsh.specs.Exchange.{Heard, HasReply, is_whole, is_closed, Judged, whole, broken, short, memory, Ended, closed, cut, Hears, hears_if, Talks, Shuts, Exchanges}
 
@@ -109,12 +110,12 @@ hears_replied so_far status (Gives (b ∷ bytes) ∷ more) run does heard =
     (λ goes still. hears_replied (so_far ++ b ∷ bytes) status more does.rest goes still)
 
 -- on one connection to the host's port the whole text was sent, and a whole reply of this status came
-pub record Answered (host text : List ℕ) (status : ℕ) (events : List Happened) : Type 0 where
+pub record Answered (base : BaseParts) (text : List ℕ) (status : ℕ) (events : List Happened) : Type 0 where
   pub received : List ℕ
   pub reply : Message
   pub has : HasReply received reply
   pub is : reply.head.status ≡ status
-  pub makes : (cs : Connections) → after_calls cs events ≡ with_standing (all_of cs ++ connection host 80 text received ∷ []) None
+  pub makes : (cs : Connections) → after_calls cs events ≡ with_standing (all_of cs ++ connection base.host base.port text received ∷ []) None
 
 -- what the text and its reply add to a connection that stands
 record Talked (text : List ℕ) (status : ℕ) (events : List Happened) : Type 0 where
@@ -159,30 +160,30 @@ shuts_down heard (Gives piece ∷ more) run does = absurd does
 shuts_down heard (Goes ∷ more) run does =
     subst (ShutDown heard) (sym (does.is ∙ ap (prepend one_device (shut_down ∷ [])) does.does)) (record { result = refl; ends = λ cs. refl })
 
-connected_replied : (host text : List ℕ) (status : ℕ) (answers : List Answer) (run rest : HeardRun) → run ≡ prepend one_device (happened (Connect host 80) Goes ∷ []) rest
-    → Follows one_device (Talks text) Shuts answers rest → run.result ≡ Ok (Some status) → Answered host text status run.made
-connected_replied host text status answers run rest is does heard =
+connected_replied : (base : BaseParts) (text : List ℕ) (status : ℕ) (answers : List Answer) (run rest : HeardRun) → run ≡ prepend one_device (happened (Connect base.host base.port) Goes ∷ []) rest
+    → Follows one_device (Talks text) Shuts answers rest → run.result ≡ Ok (Some status) → Answered base text status run.made
+connected_replied base text status answers run rest is does heard =
     let shut = shuts_down does.before.result does.before.left does.after does.goes_on in
     let result : does.before.result ≡ Ok (Some status) =
     sym shut.result ∙ sym (ap (λ (r : HeardRun). r.result) does.whole) ∙ sym (ap (λ (r : HeardRun). r.result) is) ∙ heard in
     let talked = talks_replied text status answers does.before does.begins result in
-    let made : run.made ≡ happened (Connect host 80) Goes ∷ (does.before.made ++ does.after.made) =
-    ap (λ (r : HeardRun). r.made) is ∙ ap (λ (r : HeardRun). happened (Connect host 80) Goes ∷ r.made) does.whole in
-    subst (Answered host text status) (sym made) (record {
+    let made : run.made ≡ happened (Connect base.host base.port) Goes ∷ (does.before.made ++ does.after.made) =
+    ap (λ (r : HeardRun). r.made) is ∙ ap (λ (r : HeardRun). happened (Connect base.host base.port) Goes ∷ r.made) does.whole in
+    subst (Answered base text status) (sym made) (record {
       received = talked.received;
       reply = talked.reply;
       has = talked.has;
       is = talked.is;
       makes = λ cs.
-          after_calls-append (with_standing (all_of cs) (Some (connection host 80 [] []))) does.before.made does.after.made
-          ∙ ap (λ (k : Connections). after_calls k does.after.made) (talked.adds (all_of cs) (connection host 80 [] []))
-          ∙ shut.ends (with_standing (all_of cs) (Some (connection host 80 text talked.received)));
+          after_calls-append (with_standing (all_of cs) (Some (connection base.host base.port [] []))) does.before.made does.after.made
+          ∙ ap (λ (k : Connections). after_calls k does.after.made) (talked.adds (all_of cs) (connection base.host base.port [] []))
+          ∙ shut.ends (with_standing (all_of cs) (Some (connection base.host base.port text talked.received)));
     })
 
-pub exchange_replied : (host text : List ℕ) (status : ℕ) (answers : List Answer) (run : HeardRun) → Exchanges host text answers run → run.result ≡ Ok (Some status) → Answered host text status run.made
-exchange_replied host text status [] run does heard = absurd does
-exchange_replied host text status (Fails ∷ more) run does heard =
-    absurd (none_is_no status (sym (ap (λ (r : HeardRun). r.result) (does.is ∙ ap (prepend one_device (happened (Connect host 80) Fails ∷ [])) does.does)) ∙ heard))
-exchange_replied host text status (Goes ∷ more) run does heard = connected_replied host text status more run does.rest does.is does.does heard
-exchange_replied host text status (Takes n ∷ more) run does heard = absurd does
-exchange_replied host text status (Gives piece ∷ more) run does heard = absurd does
+pub exchange_replied : (base : BaseParts) (text : List ℕ) (status : ℕ) (answers : List Answer) (run : HeardRun) → Exchanges base text answers run → run.result ≡ Ok (Some status) → Answered base text status run.made
+exchange_replied base text status [] run does heard = absurd does
+exchange_replied base text status (Fails ∷ more) run does heard =
+    absurd (none_is_no status (sym (ap (λ (r : HeardRun). r.result) (does.is ∙ ap (prepend one_device (happened (Connect base.host base.port) Fails ∷ [])) does.does)) ∙ heard))
+exchange_replied base text status (Goes ∷ more) run does heard = connected_replied base text status more run does.rest does.is does.does heard
+exchange_replied base text status (Takes n ∷ more) run does heard = absurd does
+exchange_replied base text status (Gives piece ∷ more) run does heard = absurd does

@@ -15,6 +15,7 @@ use Rattle.dav_desk.specs.After.{after}
 use Rattle.dav_desk.specs.declared.answer.Answer.TheVariants.{Took, Settled}
 use Rattle.dav_desk.specs.declared.answer.Job.{Job}
 use Rattle.dav_desk.specs.declared.ask.Ask.TheVariants.{Take}
+use Rattle.dav_uri.specs.Target.{BaseParts}
 use Rattle.dav_desk.proofs.Laws.{take_is_within, take_keeps_files, take_gives_queued, take_marks_path, take_keeps_taken, take_gives_other, settle_is_within, settle_queues_nothing, settle_keeps_taken}
 use Rattle.davsh.specs.Exchange.{Heard, Judged, whole, broken, short, memory, Ended, closed, cut, Hears, hears_if, Talks, Shuts, Exchanges, Uploads, sends, memory as no_memory, put_text}
 use Rattle.davsh.specs.Drain.{Drains, Turn, idle, memory as drain_memory, starved, turn, done_of}
@@ -122,52 +123,52 @@ talked_by text answers run false does hears =
     })
 
 -- one connection to the host was begun and ended, and a beginning of the text was sent on it; or there was none
-record Adds (host text : List ℕ) (events : List Happened) : Type 0 where
+record Adds (base : BaseParts) (text : List ℕ) (events : List Happened) : Type 0 where
   new : Option Connection
-  begun : OnSome new (IsBegun host text)
+  begun : OnSome new (IsBegun base text)
   adds : (ended : List Connection) → after_calls (with_standing ended None) events ≡ with_standing (ended ++ as_list new) None
 
-adds_none : (host text : List ℕ) (events : List Happened) → ((ended : List Connection) → after_calls (with_standing ended None) events ≡ with_standing ended None) → Adds host text events
-adds_none host text events same = record {
+adds_none : (base : BaseParts) (text : List ℕ) (events : List Happened) → ((ended : List Connection) → after_calls (with_standing ended None) events ≡ with_standing ended None) → Adds base text events
+adds_none base text events same = record {
   new = None;
   begun = tt;
   adds = λ ended. same ended ∙ ap (λ (l : List Connection). with_standing l None) (sym (append-nil ended));
 }
 
-connected_adds : (host text : List ℕ) (answers : List Answer) (run rest : HeardRun) → run ≡ prepend one_device (happened (Connect host 80) Goes ∷ []) rest → Follows one_device (Talks text) Shuts answers rest → Adds host text run.made
-connected_adds host text answers run rest is does =
+connected_adds : (base : BaseParts) (text : List ℕ) (answers : List Answer) (run rest : HeardRun) → run ≡ prepend one_device (happened (Connect base.host base.port) Goes ∷ []) rest → Follows one_device (Talks text) Shuts answers rest → Adds base text run.made
+connected_adds base text answers run rest is does =
     let shut = shuts_down does.before.result does.before.left does.after does.goes_on in
     let talked = talked_by text answers does.before does.begins.before.result does.begins does.begins.goes_on in
-    let made : run.made ≡ happened (Connect host 80) Goes ∷ (does.before.made ++ does.after.made) =
-    ap (λ (r : HeardRun). r.made) is ∙ ap (λ (r : HeardRun). happened (Connect host 80) Goes ∷ r.made) does.whole in
-    let c = connection host 80 talked.sent talked.received in
-    subst (Adds host text) (sym made) (record {
+    let made : run.made ≡ happened (Connect base.host base.port) Goes ∷ (does.before.made ++ does.after.made) =
+    ap (λ (r : HeardRun). r.made) is ∙ ap (λ (r : HeardRun). happened (Connect base.host base.port) Goes ∷ r.made) does.whole in
+    let c = connection base.host base.port talked.sent talked.received in
+    subst (Adds base text) (sym made) (record {
       new = Some c;
       begun = record { to_host = refl; to_port = refl; cut = talked.cut; sent = talked.begins };
       adds = λ ended.
-          after_calls-append (with_standing ended (Some (connection host 80 [] []))) does.before.made does.after.made
-          ∙ ap (λ (k : Connections). after_calls k does.after.made) (talked.adds ended (connection host 80 [] []))
+          after_calls-append (with_standing ended (Some (connection base.host base.port [] []))) does.before.made does.after.made
+          ∙ ap (λ (k : Connections). after_calls k does.after.made) (talked.adds ended (connection base.host base.port [] []))
           ∙ shut.ends (with_standing ended (Some c));
     })
 
-exchange_adds : (host text : List ℕ) (answers : List Answer) (run : HeardRun) → Exchanges host text answers run → Adds host text run.made
-exchange_adds host text [] run does = absurd does
-exchange_adds host text (Fails ∷ more) run does =
-    adds_none host text run.made (λ ended. ap (λ (r : HeardRun). after_calls (with_standing ended None) r.made) (does.is ∙ ap (prepend one_device (happened (Connect host 80) Fails ∷ [])) does.does))
-exchange_adds host text (Goes ∷ more) run does = connected_adds host text more run does.rest does.is does.does
-exchange_adds host text (Takes n ∷ more) run does = absurd does
-exchange_adds host text (Gives piece ∷ more) run does = absurd does
+exchange_adds : (base : BaseParts) (text : List ℕ) (answers : List Answer) (run : HeardRun) → Exchanges base text answers run → Adds base text run.made
+exchange_adds base text [] run does = absurd does
+exchange_adds base text (Fails ∷ more) run does =
+    adds_none base text run.made (λ ended. ap (λ (r : HeardRun). after_calls (with_standing ended None) r.made) (does.is ∙ ap (prepend one_device (happened (Connect base.host base.port) Fails ∷ [])) does.does))
+exchange_adds base text (Goes ∷ more) run does = connected_adds base text more run does.rest does.is does.does
+exchange_adds base text (Takes n ∷ more) run does = absurd does
+exchange_adds base text (Gives piece ∷ more) run does = absurd does
 
-upload_adds : (host : List ℕ) (path : PathParts) (bytes : List ℕ) (answers : List Answer) (run : HeardRun) → Uploads host path bytes answers run → Adds host (put_text host path bytes) run.made
-upload_adds host path bytes answers run (sends does) = exchange_adds host (put_text host path bytes) answers run does
-upload_adds host path bytes answers run (no_memory want gives) =
-    adds_none host (put_text host path bytes) run.made (λ ended. ap (λ (r : HeardRun). after_calls (with_standing ended None) r.made) gives)
+upload_adds : (base : BaseParts) (path : PathParts) (bytes : List ℕ) (answers : List Answer) (run : HeardRun) → Uploads base path bytes answers run → Adds base (put_text base path bytes) run.made
+upload_adds base path bytes answers run (sends does) = exchange_adds base (put_text base path bytes) answers run does
+upload_adds base path bytes answers run (no_memory want gives) =
+    adds_none base (put_text base path bytes) run.made (λ ended. ap (λ (r : HeardRun). after_calls (with_standing ended None) r.made) gives)
 
 -- a beginning of the request of a file of the queue was sent on the connection
-pub record IsPutOf (host : List ℕ) (table : Table) (path : PathParts) (c : Connection) : Type 0 where
+pub record IsPutOf (base : BaseParts) (table : Table) (path : PathParts) (c : Connection) : Type 0 where
   pub bytes : List ℕ
   pub queued : IsQueued table path bytes
-  pub begun : IsBegun host (put_text host path bytes) c
+  pub begun : IsBegun base (put_text base path bytes) c
 
 pub pairwise_weaker : {X Y : Type 0} (P Q : X → Y → Type 0) → ((x : X) (y : Y) → P x y → Q x y) → (xs : List X) (ys : List Y) → Pairwise P xs ys → Pairwise Q xs ys
 pairwise_weaker P Q f [] [] all = tt
@@ -180,17 +181,17 @@ abbrev NoneIs : PathParts → List PathParts → Type 0
 NoneIs path paths = Every (λ p. p.segments ≢ path.segments) paths
 
 -- The connections that a drain begins and ends, each of a path of its own, which wasn't taken before.
-record DrainAdds (host : List ℕ) (before : Table) (events : List Happened) : Type 0 where
+record DrainAdds (base : BaseParts) (before : Table) (events : List Happened) : Type 0 where
   paths : List PathParts
   new : List Connection
-  each : Pairwise (IsPutOf host before) paths new
+  each : Pairwise (IsPutOf base before) paths new
   differ : Differ (λ p. p.segments) paths
   fresh : (path : PathParts) → IsTaken before path → NoneIs path paths
   adds : (ended : List Connection) → after_calls (with_standing ended None) events ≡ with_standing (ended ++ new) None
 
-drain_none : (host : List ℕ) (before : Table) (run : DrainRun) (went : Bool) (now : Table) (left : List Answer) → run ≡ run_with (went, now) [] left → DrainAdds host before run.made
-drain_none host before run went now left is =
-    subst (DrainAdds host before) (sym (ap (λ (r : DrainRun). r.made) is)) (record {
+drain_none : (base : BaseParts) (before : Table) (run : DrainRun) (went : Bool) (now : Table) (left : List Answer) → run ≡ run_with (went, now) [] left → DrainAdds base before run.made
+drain_none base before run went now left is =
+    subst (DrainAdds base before) (sym (ap (λ (r : DrainRun). r.made) is)) (record {
       paths = [];
       new = [];
       each = tt;
@@ -199,17 +200,17 @@ drain_none host before run went now left is =
       adds = λ ended. ap (λ (l : List Connection). with_standing l None) (sym (append-nil ended));
     })
 
-put_of : (host : List ℕ) (before taken : Table) (job : Job) (c : Connection) → after before Take ≡ (taken, Ok (Took job)) → IsBegun host (put_text host job.path job.bytes) c → IsPutOf host before job.path c
-put_of host before taken job c takes begun = record { bytes = job.bytes; queued = take_gives_queued before taken job takes; begun = begun }
+put_of : (base : BaseParts) (before taken : Table) (job : Job) (c : Connection) → after before Take ≡ (taken, Ok (Took job)) → IsBegun base (put_text base job.path job.bytes) c → IsPutOf base before job.path c
+put_of base before taken job c takes begun = record { bytes = job.bytes; queued = take_gives_queued before taken job takes; begun = begun }
 
 -- one job, and what comes behind it
-drain_job : (host : List ℕ) (before taken now : Table) (job : Job) (es fs : List Happened) → IsWithin before → after before Take ≡ (taken, Ok (Took job)) → Adds host (put_text host job.path job.bytes) es
-    → DrainAdds host now fs → ((path : PathParts) (bytes : List ℕ) → IsQueued now path bytes → IsQueued before path bytes) → ((path : PathParts) → IsTaken taken path → IsTaken now path)
-    → DrainAdds host before (es ++ fs)
-drain_job host before taken now job es fs within takes one two back stays = by_new one.new one.begun one.adds
+drain_job : (base : BaseParts) (before taken now : Table) (job : Job) (es fs : List Happened) → IsWithin before → after before Take ≡ (taken, Ok (Took job)) → Adds base (put_text base job.path job.bytes) es
+    → DrainAdds base now fs → ((path : PathParts) (bytes : List ℕ) → IsQueued now path bytes → IsQueued before path bytes) → ((path : PathParts) → IsTaken taken path → IsTaken now path)
+    → DrainAdds base before (es ++ fs)
+drain_job base before taken now job es fs within takes one two back stays = by_new one.new one.begun one.adds
   where
-    later : Pairwise (IsPutOf host before) two.paths two.new
-    later = pairwise_weaker (IsPutOf host now) (IsPutOf host before) (λ p c put. record { bytes = put.bytes; queued = back p put.bytes put.queued; begun = put.begun }) two.paths two.new two.each
+    later : Pairwise (IsPutOf base before) two.paths two.new
+    later = pairwise_weaker (IsPutOf base now) (IsPutOf base before) (λ p c put. record { bytes = put.bytes; queued = back p put.bytes put.queued; begun = put.begun }) two.paths two.new two.each
 
     adds : (new : List Connection) → ((ended : List Connection) → after_calls (with_standing ended None) es ≡ with_standing (ended ++ new) None)
         → (ended : List Connection) → after_calls (with_standing ended None) (es ++ fs) ≡ with_standing (ended ++ (new ++ two.new)) None
@@ -222,8 +223,8 @@ drain_job host before taken now job es fs within takes one two back stays = by_n
     later_fresh : (path : PathParts) → IsTaken before path → NoneIs path two.paths
     later_fresh path was = two.fresh path (stays path (take_keeps_taken before taken job takes path was))
 
-    by_new : (new : Option Connection) → OnSome new (IsBegun host (put_text host job.path job.bytes))
-        → ((ended : List Connection) → after_calls (with_standing ended None) es ≡ with_standing (ended ++ as_list new) None) → DrainAdds host before (es ++ fs)
+    by_new : (new : Option Connection) → OnSome new (IsBegun base (put_text base job.path job.bytes))
+        → ((ended : List Connection) → after_calls (with_standing ended None) es ≡ with_standing (ended ++ as_list new) None) → DrainAdds base before (es ++ fs)
     by_new None begun first = record {
       paths = two.paths;
       new = two.new;
@@ -235,42 +236,42 @@ drain_job host before taken now job es fs within takes one two back stays = by_n
     by_new (Some c) begun first = record {
       paths = job.path ∷ two.paths;
       new = c ∷ two.new;
-      each = (put_of host before taken job c takes begun, later);
+      each = (put_of base before taken job c takes begun, later);
       differ = (two.fresh job.path (stays job.path (take_marks_path before taken job within takes)), two.differ);
       fresh = λ path was. (take_gives_other before taken job takes path was, later_fresh path was);
       adds = adds (c ∷ []) first;
     }
 
-queued_before : (host : List ℕ) (before now : Table) (answers : List Answer) (sent : HeardRun) (t : Turn host before answers now sent) (path : PathParts) (bytes : List ℕ) → IsQueued now path bytes → IsQueued before path bytes
-queued_before host before now answers sent t path bytes queued =
+queued_before : (base : BaseParts) (before now : Table) (answers : List Answer) (sent : HeardRun) (t : Turn base before answers now sent) (path : PathParts) (bytes : List ℕ) → IsQueued now path bytes → IsQueued before path bytes
+queued_before base before now answers sent t path bytes queued =
     subst (λ (files : List KeptFile). HoldsFile files path bytes) (take_keeps_files before t.taken t.job t.takes)
     (settle_queues_nothing t.taken t.job.number (done_of t.came) now (Settled t.fated) t.settles path bytes queued)
 
-drain_adds : (host : List ℕ) (before : Table) (answers : List Answer) (run : DrainRun) → IsWithin before → Drains host before answers run → DrainAdds host before run.made
-drain_adds host before answers run within (idle t a r none gives) = drain_none host t r true t a gives
-drain_adds host before answers run within (drain_memory t a r gives) = drain_none host t r false t a gives
-drain_adds host before answers run within (starved t a r now sent s is) =
-    let none = drain_none host now (run_with (false, now) [] a) false now a refl in
-    subst (DrainAdds host t) (append-nil sent.made ∙ sym (ap (λ (q : DrainRun). q.made) is))
-    (drain_job host t now now s.job sent.made [] within s.takes (upload_adds host s.job.path s.job.bytes a sent s.uploads) none
+drain_adds : (base : BaseParts) (before : Table) (answers : List Answer) (run : DrainRun) → IsWithin before → Drains base before answers run → DrainAdds base before run.made
+drain_adds base before answers run within (idle t a r none gives) = drain_none base t r true t a gives
+drain_adds base before answers run within (drain_memory t a r gives) = drain_none base t r false t a gives
+drain_adds base before answers run within (starved t a r now sent s is) =
+    let none = drain_none base now (run_with (false, now) [] a) false now a refl in
+    subst (DrainAdds base t) (append-nil sent.made ∙ sym (ap (λ (q : DrainRun). q.made) is))
+    (drain_job base t now now s.job sent.made [] within s.takes (upload_adds base s.job.path s.job.bytes a sent s.uploads) none
     (λ path bytes queued. subst (λ (files : List KeptFile). HoldsFile files path bytes) (take_keeps_files t now s.job s.takes) queued) (λ path was. was))
-drain_adds host before answers run within (turn t a r now sent rest one more is) =
+drain_adds base before answers run within (turn t a r now sent rest one more is) =
     let taken_within = take_is_within t one.taken one.job within one.takes in
     let now_within = settle_is_within one.taken one.job.number (done_of one.came) now (Settled one.fated) taken_within one.settles in
-    subst (DrainAdds host t) (sym (ap (λ (q : DrainRun). q.made) is))
-    (drain_job host t one.taken now one.job sent.made rest.made within one.takes (upload_adds host one.job.path one.job.bytes a sent one.uploads) (drain_adds host now sent.left rest now_within more)
-    (queued_before host t now a sent one) (settle_keeps_taken one.taken one.job.number (done_of one.came) now (Settled one.fated) one.settles))
+    subst (DrainAdds base t) (sym (ap (λ (q : DrainRun). q.made) is))
+    (drain_job base t one.taken now one.job sent.made rest.made within one.takes (upload_adds base one.job.path one.job.bytes a sent one.uploads) (drain_adds base now sent.left rest now_within more)
+    (queued_before base t now a sent one) (settle_keeps_taken one.taken one.job.number (done_of one.came) now (Settled one.fated) one.settles))
 
 -- each connection is of a queued path of its own
-pub record PutsOnce (host : List ℕ) (table : Table) (connections : List Connection) : Type 0 where
+pub record PutsOnce (base : BaseParts) (table : Table) (connections : List Connection) : Type 0 where
   pub paths : List PathParts
   pub differ : Differ (λ p. p.segments) paths
-  pub each : Pairwise (IsPutOf host table) paths connections
+  pub each : Pairwise (IsPutOf base table) paths connections
 
-pub puts_none : (host : List ℕ) (table : Table) → PutsOnce host table []
-puts_none host table = record { paths = []; differ = tt; each = tt }
+pub puts_none : (base : BaseParts) (table : Table) → PutsOnce base table []
+puts_none base table = record { paths = []; differ = tt; each = tt }
 
-pub drain_puts : (host : List ℕ) (before : Table) (answers : List Answer) (run : DrainRun) → IsWithin before → Drains host before answers run → PutsOnce host before (connections_of run.made)
-drain_puts host before answers run within does =
-    let all = drain_adds host before answers run within does in
-    subst (PutsOnce host before) (sym (ap all_of (all.adds []))) (record { paths = all.paths; differ = all.differ; each = all.each })
+pub drain_puts : (base : BaseParts) (before : Table) (answers : List Answer) (run : DrainRun) → IsWithin before → Drains base before answers run → PutsOnce base before (connections_of run.made)
+drain_puts base before answers run within does =
+    let all = drain_adds base before answers run within does in
+    subst (PutsOnce base before) (sym (ap all_of (all.adds []))) (record { paths = all.paths; differ = all.differ; each = all.each })

@@ -28,10 +28,10 @@ refused_leaves old new path bytes fault is =
     (Closed old.next_file) (Limit limits.Queue) (Limit limits.Files) fault is
 
 -- a store that a limit refused
-pub limit_answered : (before : State) (line : List ℕ) (path : PathParts) (bytes : List ℕ) (which : Which) (fault : DeskFault) (new : Table) → IsPut line path bytes
-    → fault ≡ Limit which → IsStep before.table (Store path bytes) new (Err fault) → Answered before line (limit_line which) (state new true before.starved before.done)
+pub limit_answered : (before : State) (line : List ℕ) (path : PathParts) (bytes : List ℕ) (which : Which) (fault : DeskFault) (new : Table) → IsPut before.current line path bytes
+    → fault ≡ Limit which → IsStep before.table (Store path bytes) new (Err fault) → Answered before line (limit_line which) (state before.current new true before.starved before.done)
 limit_answered before line path bytes which fault new put is stepped =
     let step = subst (λ (f : DeskFault). IsStep before.table (Store path bytes) new (Err f)) is stepped in
     let same = refused_leaves before.table new path bytes (Limit which) step in
     Answered.limit path bytes which put (step ∙ ap (λ (t : Table). let s : Stepped = (t, Err (Limit which)) in s) same) refl
-    (ap (λ (t : Table). state t true before.starved before.done) same)
+    (ap (λ (t : Table). state before.current t true before.starved before.done) same)

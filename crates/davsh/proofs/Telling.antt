@@ -6,6 +6,7 @@ use Rattle.dav_machine.specs.Machine.{Run, run_with, prepend, give, and_then}
 use Rattle.dav_machine.proofs.Logs.{any_failed-append}
 use Rattle.dav_edge.specs.Device.{Answer, Happened, ByteMachine, is_failure}
 use Rattle.dav_edge.proofs.Sending.{sent_so}
+use Rattle.dav_text.specs.Path.{PathParts}
 use Rattle.davsh.specs.declared.stop.Stop.{Stop}
 use Rattle.davsh.specs.declared.stop.Stop.TheVariants.{End, Input, Output}
 use Rattle.davsh.specs.Line.{without_return, lines_from}
@@ -59,8 +60,8 @@ one_line line before answers run carries =
           (wrote_sent carries.printed sent so);
     }
 
-abbrev told_line : List ℕ → List ℕ → Told
-told_line line printed = record { line = line; printed = printed }
+abbrev told_line : PathParts → List ℕ → List ℕ → Told
+told_line current line printed = record { current = current; line = line; printed = printed }
 
 or_true : (a b : Bool) → b ≡ true → (a || b) ≡ true
 or_true true b h = refl
@@ -82,11 +83,11 @@ line_then : (line : List ℕ) (lines : List (List ℕ)) (failed : Bool) (before 
 line_then line lines failed before first true printed now next after run answered faulted wrote does whole then_ =
     let later = then_ (counted now) first.left after does in
     subst (Tells (line ∷ lines) failed before) (sym whole) (record {
-      told = told_line line printed ∷ later.told;
+      told = told_line before.current line printed ∷ later.told;
       rest = later.rest;
       lines_are = ap (λ (l : List (List ℕ)). line ∷ l) later.lines_are;
       all = later.all;
-      walked = (now, answered, inr later.walked);
+      walked = (now, answered, inr later.walked, refl);
       source = later.source;
       sink = λ out. any_later first.made after.made (later.sink out);
       fine = λ none. any_failed-append is_failure first.made after.made faulted ∙ later.fine none;
@@ -95,11 +96,11 @@ line_then line lines failed before first true printed now next after run answere
 line_then line lines failed before first false printed now next after run answered faulted wrote does whole then_ =
     let whole' : run ≡ run_with (Output, now) (first.made ++ []) first.left = whole ∙ ap (prepend one_device first.made) does in
     subst (Tells (line ∷ lines) failed before) (sym whole') (record {
-      told = told_line line printed ∷ [];
+      told = told_line before.current line printed ∷ [];
       rest = lines;
       lines_are = refl;
       all = λ is. absurd (cc);
-      walked = (now, answered, inl (refl, refl));
+      walked = (now, answered, inl (refl, refl), refl);
       source = λ is. absurd (cc);
       sink = λ out. ap (any_failed is_failure) (append-nil first.made) ∙ faulted;
       fine = λ none. absurd (none refl);

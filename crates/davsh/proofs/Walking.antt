@@ -49,7 +49,7 @@ keeps_same told before now within same other = record {
   closes = λ path bytes close. absurd (other close.typed (length bytes) close.printed);
 }
 
-keeps_closed : (told : Told) (before now : State) (path : PathParts) (bytes : List ℕ) (table : Table) (answer : DeskAnswer) → IsWithin before.table → IsPut told.line path bytes
+keeps_closed : (told : Told) (before now : State) (path : PathParts) (bytes : List ℕ) (table : Table) (answer : DeskAnswer) → IsWithin before.table → IsPut told.current told.line path bytes
     → after before.table (Store path bytes) ≡ (table, Ok answer) → told.printed ≡ closed_line path (length bytes) → now.table ≡ table → Keeps1 told before now
 keeps_closed told before now path bytes table answer within put step printed is =
     let back : table ≡ now.table = sym is in record {
@@ -59,23 +59,23 @@ keeps_closed told before now path bytes table answer within put step printed is 
           (store_keeps_others before.table path bytes table answer step other b
           (λ same. none bytes (record { typed = path; put = put; same = sym same; printed = printed })) queued);
       closes = λ other b close.
-          let one = put_unique told.line path close.typed bytes b put close.put in
+          let one = put_unique told.current told.line path close.typed bytes b put close.put in
           let same : path.segments ≡ other.segments = ap (λ (p : PathParts). p.segments) one.0 ∙ close.same in
           subst (λ (t : Table). IsQueued t other b) back
           (holds_same _ path other b same
           (subst (λ (l : List ℕ). IsQueued table path l) one.1 (store_queues before.table path bytes table answer step)));
     }
 
-keeps_one : (told : Told) (before now : State) → IsWithin before.table → Answered before told.line told.printed now → Keeps1 told before now
-keeps_one told before now within (nothing empty printed is) =
+keeps_one : (told : Told) (before now : State) → IsWithin before.table → told.current ≡ before.current → Answered before told.line told.printed now → Keeps1 told before now
+keeps_one told before now within here (nothing empty printed is) =
     keeps_same told before now within (ap (λ (s : State). s.table) is) (λ path len same. let h : 0 ≡ 99 = ap first_byte (sym printed ∙ same) in absurd (omega arith))
-keeps_one told before now within (syntax some none printed is) =
+keeps_one told before now within here (syntax some none printed is) =
     keeps_same told before now within (ap (λ (s : State). s.table) is) (λ path len same. let h : 102 ≡ 99 = ap first_byte (sym printed ∙ same) in absurd (omega arith))
-keeps_one told before now within (closed path bytes table answer put step printed is) =
-    keeps_closed told before now path bytes table answer within put step printed (ap (λ (s : State). s.table) is)
-keeps_one told before now within (limit path bytes which put step printed is) =
+keeps_one told before now within here (closed path bytes table answer put step printed is) =
+    keeps_closed told before now path bytes table answer within (subst (λ (c : PathParts). IsPut c told.line path bytes) (sym here) put) step printed (ap (λ (s : State). s.table) is)
+keeps_one told before now within here (limit path bytes which put step printed is) =
     keeps_same told before now within (ap (λ (s : State). s.table) is) (λ path len same. limit_first which path len (sym printed ∙ same))
-keeps_one told before now within (memory printed is) =
+keeps_one told before now within here (memory printed is) =
     keeps_same told before now within (ap (λ (s : State). s.table) is) (λ path len same. let h : 102 ≡ 99 = ap first_byte (sym printed ∙ same) in absurd (omega arith))
 
 -- what some lines do to the files of the queue
@@ -106,11 +106,11 @@ walk_more t told before now end one more = record {
 
 pub walk_keeps : (told : List Told) (before end : State) → IsWithin before.table → Walks before told end → WalkKeeps told before end
 walk_keeps [] before end within walks = walk_none before end within walks
-walk_keeps (t ∷ told) before end within (now, answered, inl (none, is)) =
-    let one = keeps_one t before now within answered in
+walk_keeps (t ∷ told) before end within (now, answered, inl (none, is), here) =
+    let one = keeps_one t before now within here answered in
     walk_more t told before now end one (subst (λ (l : List Told). WalkKeeps l now end) (sym none) (walk_none now end one.within is))
-walk_keeps (t ∷ told) before end within (now, answered, inr walks) =
-    let one = keeps_one t before now within answered in
+walk_keeps (t ∷ told) before end within (now, answered, inr walks, here) =
+    let one = keeps_one t before now within here answered in
     let more = walk_keeps told (counted now) end one.within walks in
     walk_more t told before now end one (record { within = more.within; lost = more.lost; stays = more.stays; last = more.last })
 
@@ -122,7 +122,7 @@ back_same : (told : Told) (before now : State) (path : PathParts) (bytes : List 
 back_same told before now path bytes same other queued =
     inr (subst (λ (t : Table). IsQueued t path bytes) same queued, λ b close. other close.typed (length b) close.printed)
 
-back_closed : (told : Told) (before now : State) (named : PathParts) (stored : List ℕ) (table : Table) (answer : DeskAnswer) (path : PathParts) (bytes : List ℕ) → IsWithin before.table → IsPut told.line named stored
+back_closed : (told : Told) (before now : State) (named : PathParts) (stored : List ℕ) (table : Table) (answer : DeskAnswer) (path : PathParts) (bytes : List ℕ) → IsWithin before.table → IsPut told.current told.line named stored
     → after before.table (Store named stored) ≡ (table, Ok answer) → told.printed ≡ closed_line named (length stored) → now.table ≡ table → IsQueued now.table path bytes → IsBack told before path bytes
 back_closed told before now named stored table answer path bytes within put step printed is queued =
     let here : IsQueued table path bytes = subst (λ (t : Table). IsQueued t path bytes) is queued in
@@ -132,7 +132,7 @@ back_closed told before now named stored table answer path bytes within put step
     let bytes_are : bytes ≡ stored = store_leaves_no_older before.table named stored table answer within step bytes (holds_same _ path named bytes same here) in
     inl (record {
       typed = named;
-      put = subst (λ (l : List ℕ). IsPut told.line named l) (sym bytes_are) put;
+      put = subst (λ (l : List ℕ). IsPut told.current told.line named l) (sym bytes_are) put;
       same = sym same;
       printed = printed ∙ ap (λ (l : List ℕ). closed_line named (length l)) (sym bytes_are);
     }))
@@ -141,20 +141,20 @@ back_closed told before now named stored table answer path bytes within put step
     inr (
       store_queues_no_other before.table named stored table answer step path bytes other here,
       λ b close.
-          let one = put_unique told.line named close.typed stored b put close.put in
+          let one = put_unique told.current told.line named close.typed stored b put close.put in
           other (sym (ap (λ (p : PathParts). p.segments) one.0 ∙ close.same)),
     ))
 
-back_one : (told : Told) (before now : State) (path : PathParts) (bytes : List ℕ) → IsWithin before.table → Answered before told.line told.printed now → IsQueued now.table path bytes → IsBack told before path bytes
-back_one told before now path bytes within (nothing empty printed is) queued =
+back_one : (told : Told) (before now : State) (path : PathParts) (bytes : List ℕ) → IsWithin before.table → told.current ≡ before.current → Answered before told.line told.printed now → IsQueued now.table path bytes → IsBack told before path bytes
+back_one told before now path bytes within at (nothing empty printed is) queued =
     back_same told before now path bytes (ap (λ (s : State). s.table) is) (λ p len same. let h : 0 ≡ 99 = ap first_byte (sym printed ∙ same) in absurd (omega arith)) queued
-back_one told before now path bytes within (syntax some none printed is) queued =
+back_one told before now path bytes within at (syntax some none printed is) queued =
     back_same told before now path bytes (ap (λ (s : State). s.table) is) (λ p len same. let h : 102 ≡ 99 = ap first_byte (sym printed ∙ same) in absurd (omega arith)) queued
-back_one told before now path bytes within (closed named stored table answer put step printed is) queued =
-    back_closed told before now named stored table answer path bytes within put step printed (ap (λ (s : State). s.table) is) queued
-back_one told before now path bytes within (limit named stored which put step printed is) queued =
+back_one told before now path bytes within at (closed named stored table answer put step printed is) queued =
+    back_closed told before now named stored table answer path bytes within (subst (λ (c : PathParts). IsPut c told.line named stored) (sym at) put) step printed (ap (λ (s : State). s.table) is) queued
+back_one told before now path bytes within at (limit named stored which put step printed is) queued =
     back_same told before now path bytes (ap (λ (s : State). s.table) is) (λ p len same. limit_first which p len (sym printed ∙ same)) queued
-back_one told before now path bytes within (memory printed is) queued =
+back_one told before now path bytes within at (memory printed is) queued =
     back_same told before now path bytes (ap (λ (s : State). s.table) is) (λ p len same. let h : 102 ≡ 99 = ap first_byte (sym printed ∙ same) in absurd (omega arith)) queued
 
 -- what is queued behind some lines was closed last by one of them, or was queued before and closed by none
@@ -170,14 +170,14 @@ back_then t told before now path bytes (inr here) one = elim (one here.0) [
 
 pub walk_back : (told : List Told) (before end : State) (path : PathParts) (bytes : List ℕ) → IsWithin before.table → Walks before told end → IsQueued end.table path bytes → IsWalkBack told before path bytes
 walk_back [] before end path bytes within walks queued = inr (subst (λ (s : State). IsQueued s.table path bytes) walks queued, tt)
-walk_back (t ∷ told) before end path bytes within (now, answered, inl (none, is)) queued =
+walk_back (t ∷ told) before end path bytes within (now, answered, inl (none, is), here) queued =
     let last : IsQueued now.table path bytes = subst (λ (s : State). IsQueued s.table path bytes) is queued in
     back_then t told before now path bytes (subst (λ (l : List Told). IsWalkBack l now path bytes) (sym none) (inr (last, tt)))
-    (λ here. back_one t before now path bytes within answered here)
-walk_back (t ∷ told) before end path bytes within (now, answered, inr walks) queued =
-    let one = keeps_one t before now within answered in
+    (λ queued_now. back_one t before now path bytes within here answered queued_now)
+walk_back (t ∷ told) before end path bytes within (now, answered, inr walks, here) queued =
+    let one = keeps_one t before now within here answered in
     back_then t told before now path bytes (walk_back told (counted now) end path bytes one.within walks queued)
-    (λ here. back_one t before now path bytes within answered here)
+    (λ queued_now. back_one t before now path bytes within here answered queued_now)
 
 -- what a line prints begins with no fault
 no_fault : (told : Told) (n : ℕ) → first_byte told.printed ≡ n → (n ≡ 102 → ⊥) → IsFault told → ⊥
@@ -238,8 +238,8 @@ faults_more t told before now end one more = record {
 
 pub walk_faults : (told : List Told) (before end : State) → Walks before told end → WalkFaults told before end
 walk_faults [] before end walks = faults_none before end walks
-walk_faults (t ∷ told) before end (now, answered, inl (none, is)) =
+walk_faults (t ∷ told) before end (now, answered, inl (none, is), here) =
     faults_more t told before now end (faults_one t before now answered) (subst (λ (l : List Told). WalkFaults l now end) (sym none) (faults_none now end is))
-walk_faults (t ∷ told) before end (now, answered, inr walks) =
+walk_faults (t ∷ told) before end (now, answered, inr walks, here) =
     let more = walk_faults told (counted now) end walks in
     faults_more t told before now end (faults_one t before now answered) (record { was = more.was; has = more.has; back = more.back })

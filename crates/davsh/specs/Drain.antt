@@ -11,6 +11,7 @@ use Rattle.dav_desk.specs.declared.answer.Fated.{Fated}
 use Rattle.dav_desk.specs.declared.answer.Job.{Job}
 use Rattle.dav_desk.specs.declared.ask.Ask.TheVariants.{Take, Settle}
 use Rattle.dav_desk.specs.declared.ask.Done.{Done}
+use Rattle.dav_uri.specs.Target.{BaseParts}
 use Rattle.dav_desk.specs.declared.ask.Done.TheVariants as done
 use Rattle.davsh.specs.Exchange.{Heard, Uploads, is_success, asks_again}
 
@@ -28,35 +29,35 @@ abbrev pub IsFlying : Table → ℕ → Type 0
 IsFlying table number = (job : Job) × IsInFlight table job × (job.number ≡ number)
 
 -- A job was taken, its file was sent, and what came of it was settled.
-pub record Turn (host : List ℕ) (before : Table) (answers : List Answer) (now : Table) (sent : Run (List Happened) (List Answer) Heard) : Type 0 where
+pub record Turn (base : BaseParts) (before : Table) (answers : List Answer) (now : Table) (sent : Run (List Happened) (List Answer) Heard) : Type 0 where
   pub taken : Table
   pub job : Job
   pub came : Option ℕ
   pub fated : Fated
   pub takes : after before Take ≡ (taken, Ok (Took job))
-  pub uploads : Uploads host job.path job.bytes answers sent
+  pub uploads : Uploads base job.path job.bytes answers sent
   pub heard : sent.result ≡ Ok came
   pub settles : after taken (Settle job.number (done_of came)) ≡ (now, Ok (Settled fated))
 
 -- A job was taken, and there was want of memory while its file was sent.
-pub record Starved (host : List ℕ) (before : Table) (answers : List Answer) (now : Table) (sent : Run (List Happened) (List Answer) Heard) : Type 0 where
+pub record Starved (base : BaseParts) (before : Table) (answers : List Answer) (now : Table) (sent : Run (List Happened) (List Answer) Heard) : Type 0 where
   pub job : Job
   pub want : Memory
   pub takes : after before Take ≡ (now, Ok (Took job))
-  pub uploads : Uploads host job.path job.bytes answers sent
+  pub uploads : Uploads base job.path job.bytes answers sent
   pub heard : sent.result ≡ Err want
 
 -- The desk's files are taken one by one, sent and settled, until the desk is idle. Whether it came to that,
 -- or there was want of memory, and the table then.
-pub data Drains (host : List ℕ) : Table → List Answer → Run (List Happened) (List Answer) (Bool × Table) → Type 0 where
+pub data Drains (base : BaseParts) : Table → List Answer → Run (List Happened) (List Answer) (Bool × Table) → Type 0 where
   idle : (before : Table) (answers : List Answer) (run : Run (List Happened) (List Answer) (Bool × Table))
-      → after before Take ≡ (before, Ok Idle) → give one_device (true, before) answers run → Drains host before answers run
+      → after before Take ≡ (before, Ok Idle) → give one_device (true, before) answers run → Drains base before answers run
   memory : (before : Table) (answers : List Answer) (run : Run (List Happened) (List Answer) (Bool × Table))
-      → give one_device (false, before) answers run → Drains host before answers run
+      → give one_device (false, before) answers run → Drains base before answers run
   starved : (before : Table) (answers : List Answer) (run : Run (List Happened) (List Answer) (Bool × Table))
-      (now : Table) (sent : Run (List Happened) (List Answer) Heard) → Starved host before answers now sent
-      → run ≡ run_with (false, now) sent.made sent.left → Drains host before answers run
+      (now : Table) (sent : Run (List Happened) (List Answer) Heard) → Starved base before answers now sent
+      → run ≡ run_with (false, now) sent.made sent.left → Drains base before answers run
   turn : (before : Table) (answers : List Answer) (run : Run (List Happened) (List Answer) (Bool × Table))
       (now : Table) (sent : Run (List Happened) (List Answer) Heard) (rest : Run (List Happened) (List Answer) (Bool × Table))
-      → Turn host before answers now sent → Drains host now sent.left rest
-      → run ≡ prepend one_device sent.made rest → Drains host before answers run
+      → Turn base before answers now sent → Drains base now sent.left rest
+      → run ≡ prepend one_device sent.made rest → Drains base before answers run

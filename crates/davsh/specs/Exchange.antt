@@ -12,20 +12,21 @@ use Rattle.dav_frame.specs.declared.request.Req.{Req}
 use Rattle.dav_frame.specs.declared.fault.FrameFault.{FrameFault}
 use Rattle.dav_frame.specs.declared.fault.FrameFault.TheVariants as faults
 use Rattle.dav_frame.specs.Framing.{Message, Framing, Gives as GivesReply, Closes, Faults, Short}
+use Rattle.dav_uri.specs.Target.{BaseParts, host_field}
 use Rattle.dav_frame.specs.Request.{request_text}
 
 -- the request that stores the bytes as a new file
-abbrev pub put_request : List ℕ → PathParts → List ℕ → Req
-put_request host path bytes = record {
+abbrev pub put_request : BaseParts → PathParts → List ℕ → Req
+put_request base path bytes = record {
   method = Put;
-  host = host;
+  host = host_field base.host base.port;
   target = escaped path;
   fields = (IfNoneMatch, codes "*") ∷ [];
   body = bytes;
 }
 
-abbrev pub put_text : List ℕ → PathParts → List ℕ → List ℕ
-put_text host path bytes = request_text (put_request host path bytes)
+abbrev pub put_text : BaseParts → PathParts → List ℕ → List ℕ
+put_text base path bytes = request_text (put_request base path bytes)
 
 -- the status of a whole reply, or none where no whole reply came, or want of memory
 abbrev pub Heard : Type 0
@@ -79,16 +80,16 @@ abbrev pub Shuts : Heard → ByteMachine Heard
 Shuts heard (Goes ∷ more) run = Calls shut_down (give one_device heard more) run
 Shuts heard _ run = ⊥
 
--- a connection to the host's port 80, the text and its reply on it, and its end
-abbrev pub Exchanges : List ℕ → List ℕ → ByteMachine Heard
-Exchanges host text (Goes ∷ more) run = Calls (happened (Connect host 80) Goes) (and_then one_device (Talks text) Shuts more) run
-Exchanges host text (Fails ∷ more) run = Calls (happened (Connect host 80) Fails) (give one_device (Ok None) more) run
-Exchanges host text _ run = ⊥
+-- a connection to the base's host and port, the text and its reply on it, and its end
+abbrev pub Exchanges : BaseParts → List ℕ → ByteMachine Heard
+Exchanges base text (Goes ∷ more) run = Calls (happened (Connect base.host base.port) Goes) (and_then one_device (Talks text) Shuts more) run
+Exchanges base text (Fails ∷ more) run = Calls (happened (Connect base.host base.port) Fails) (give one_device (Ok None) more) run
+Exchanges base text _ run = ⊥
 
 -- the file is sent as a new one, or there was no memory for its request
-pub data Uploads (host : List ℕ) (path : PathParts) (bytes : List ℕ) (answers : List Answer) (run : Run (List Happened) (List Answer) Heard) : Type 0 where
-  sends : Exchanges host (put_text host path bytes) answers run → Uploads host path bytes answers run
-  memory : (want : Memory) → give one_device (Err want) answers run → Uploads host path bytes answers run
+pub data Uploads (base : BaseParts) (path : PathParts) (bytes : List ℕ) (answers : List Answer) (run : Run (List Happened) (List Answer) Heard) : Type 0 where
+  sends : Exchanges base (put_text base path bytes) answers run → Uploads base path bytes answers run
+  memory : (want : Memory) → give one_device (Err want) answers run → Uploads base path bytes answers run
 
 -- the status says that the server took the request
 abbrev pub is_success : ℕ → Bool

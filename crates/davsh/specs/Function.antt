@@ -4,6 +4,9 @@ use Rattle.dav_machine.specs.Log.{any_failed}
 use Rattle.dav_machine.specs.Devices.{answers_before}
 use Rattle.dav_machine.specs.Machine.{Run, run_with}
 use Rattle.dav_edge.specs.Device.{Happened, DeviceLog, Grew, given, taken, is_failure}
+use Rattle.dav_text.specs.Path.{PathParts}
+use Rattle.dav_uri.specs.Target.{BaseParts}
+use Rattle.davsh.specs.Words.{IsBase}
 use Rattle.davsh.specs.Kept.{Told, line_of, printed_by}
 use Rattle.davsh.specs.Line.{lines_of}
 use Rattle.davsh.specs.Shell.{State, fresh_state, counted, Answered}
@@ -32,7 +35,7 @@ pub record IsTheRun (words : List (List ℕ)) (source_old source_new out_old out
 -- the lines were carried out one after another, and the answer of each was written whole
 abbrev pub Carried : State → List Told → State → Type 0
 Carried before [] end = end ≡ before
-Carried before (told ∷ more) end = (now : State) × Answered before told.line told.printed now × Carried (counted now) more end
+Carried before (told ∷ more) end = (now : State) × Answered before told.line told.printed now × Carried (counted now) more end × (told.current ≡ before.current)
 
 -- the calls begin with the early ones
 abbrev pub BeginsWith : List Happened → List Happened → Type 0
@@ -52,7 +55,9 @@ pub record BeginsFed (words : List (List ℕ)) (source_old source_new out_old ou
   pub lines : lines_of (given heard) ≡ map line_of first ++ rest
   pub count : end.1.done ≡ min (length first) 18446744073709551615
   pub now : State
-  pub carried : Carried fresh_state first now
+  pub current : PathParts
+  pub stands : (base : BaseParts) → IsBase words base → current ≡ base.path
+  pub carried : Carried (fresh_state current) first now
   pub fed : now.starved ≡ false
   pub early : List Happened
   pub begins : BeginsWith early made.out

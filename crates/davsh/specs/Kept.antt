@@ -6,6 +6,7 @@ use Rattle.dav_edge.specs.Connections.{Connection, connections_of}
 use Rattle.dav_text.specs.Path.{PathParts}
 use Rattle.dav_frame.specs.Framing.{Message}
 use Rattle.dav_desk.specs.Entries.{Differ}
+use Rattle.dav_uri.specs.Target.{BaseParts}
 use Rattle.dav_desk.specs.Kept.{HoldsFile}
 use Rattle.davsh.specs.declared.ended.Ended.{Ended}
 use Rattle.davsh.specs.declared.ended.Status.{Status}
@@ -16,8 +17,9 @@ use Rattle.davsh.specs.Shell.{State, fresh_state, counted, closed_line, Answered
 use Rattle.davsh.specs.Exchange.{put_text, HasReply, is_success}
 use Rattle.davsh.specs.Run.{Made, BothGrew, Ending, words_end, input_end, memory_end, left_text, EndHeard}
 
--- a line that was carried out, and what was printed of it
+-- a line that was carried out, at which current path, and what was printed of it
 pub record Told : Type 0 where
+  pub current : PathParts
   pub line : List ℕ
   pub printed : List ℕ
 
@@ -29,11 +31,12 @@ abbrev pub Walks : State → List Told → State → Type 0
 Walks before [] end = end ≡ before
 Walks before (told ∷ more) end =
     (now : State) × Answered before told.line told.printed now × (((more ≡ []) × (end ≡ now)) ⊎ Walks (counted now) more end)
+    × (told.current ≡ before.current)
 
 -- the line stored these bytes under this path, and `closed` was the answer
 pub record IsClose (told : Told) (path : PathParts) (bytes : List ℕ) : Type 0 where
   pub typed : PathParts
-  pub put : IsPut told.line typed bytes
+  pub put : IsPut told.current told.line typed bytes
   pub same : typed.segments ≡ path.segments
   pub printed : told.printed ≡ closed_line typed (length bytes)
 
@@ -47,33 +50,33 @@ abbrev pub IsLastClose : List Told → PathParts → List ℕ → Type 0
 IsLastClose [] path bytes = ⊥
 IsLastClose (told ∷ more) path bytes = IsLastClose more path bytes ⊎ (IsClose told path bytes × NoClose more path)
 
--- Among these calls of a wire a connection to the host was sent the whole request that stores the bytes as a
+-- Among these calls of a wire a connection to the base was sent the whole request that stores the bytes as a
 -- new file, and what was received on it begins with a whole reply whose status is 200 to 299, or is one whose body
 -- ends where the connection does.
-pub record WasPut (host : List ℕ) (path : PathParts) (bytes : List ℕ) (events : List Happened) : Type 0 where
+pub record WasPut (base : BaseParts) (path : PathParts) (bytes : List ℕ) (events : List Happened) : Type 0 where
   pub connection : Connection
   pub among : Contains (connections_of events) connection
-  pub to_host : connection.host ≡ host
-  pub to_port : connection.port ≡ 80
+  pub to_host : connection.host ≡ base.host
+  pub to_port : connection.port ≡ base.port
   pub named : PathParts
   pub same : named.segments ≡ path.segments
-  pub sent : connection.sent ≡ put_text host named bytes
+  pub sent : connection.sent ≡ put_text base named bytes
   pub reply : Message
   pub received : HasReply connection.received reply
   pub success : is_success reply.head.status ≡ true
 
--- a beginning of the text was sent on the connection, to the host's port 80
-pub record IsBegun (host text : List ℕ) (connection : Connection) : Type 0 where
-  pub to_host : connection.host ≡ host
-  pub to_port : connection.port ≡ 80
+-- a beginning of the text was sent on the connection, to the base's host and port
+pub record IsBegun (base : BaseParts) (text : List ℕ) (connection : Connection) : Type 0 where
+  pub to_host : connection.host ≡ base.host
+  pub to_port : connection.port ≡ base.port
   pub cut : List ℕ
   pub sent : connection.sent ++ cut ≡ text
 
 -- a beginning of the request that stores the last closed bytes of the path was sent on the connection
-pub record IsOfClose (host : List ℕ) (told : List Told) (path : PathParts) (connection : Connection) : Type 0 where
+pub record IsOfClose (base : BaseParts) (told : List Told) (path : PathParts) (connection : Connection) : Type 0 where
   pub bytes : List ℕ
   pub close : IsLastClose told path bytes
-  pub begun : IsBegun host (put_text host path bytes) connection
+  pub begun : IsBegun base (put_text base path bytes) connection
 
 -- each of the ones goes with that of the others at its place
 abbrev pub Pairwise : {X Y : Type 0} → (X → Y → Type 0) → List X → List Y → Type 0
@@ -84,15 +87,15 @@ Pairwise P (x ∷ xs) (y ∷ ys) = P x y × Pairwise P xs ys
 
 -- Each connection is of a path of its own: on it a beginning of the request that stores the path's last closed bytes
 -- was sent, and nothing else. No path is sent twice.
-pub record SentOnce (host : List ℕ) (told : List Told) (connections : List Connection) : Type 0 where
+pub record SentOnce (base : BaseParts) (told : List Told) (connections : List Connection) : Type 0 where
   pub paths : List PathParts
   pub differ : Differ (λ p. p.segments) paths
-  pub each : Pairwise (IsOfClose host told) paths connections
+  pub each : Pairwise (IsOfClose base told) paths connections
 
 -- the bytes are queued, or lost, or were sent
-abbrev pub IsKept : List ℕ → PathParts → List ℕ → Ended → List Happened → Type 0
-IsKept host path bytes end events =
-    HoldsFile end.queued path bytes ⊎ (HoldsFile end.lost path bytes ⊎ WasPut host path bytes events)
+abbrev pub IsKept : BaseParts → PathParts → List ℕ → Ended → List Happened → Type 0
+IsKept base path bytes end events =
+    HoldsFile end.queued path bytes ⊎ (HoldsFile end.lost path bytes ⊎ WasPut base path bytes events)
 
 -- what the line printed tells a fault
 abbrev pub IsFault : Told → Type 0
@@ -172,13 +175,15 @@ pub record Keeps (words : List (List ℕ)) (source_old source_new out_old out_ne
   pub source : (end.0 ≡ Input) ↔ (any_failed is_failure heard ≡ true)
   pub lines : lines_of (given heard) ≡ map line_of told ++ rest
   pub all : AllRead end.0 rest
-  pub answered : Walks fresh_state told last
+  pub current : PathParts
+  pub stands : (base : BaseParts) → IsBase words base → current ≡ base.path
+  pub answered : Walks (fresh_state current) told last
   pub wrote : Wrote made.out (printed_by told ++ last_text end)
   pub written : IsWritten end.0 made.out (printed_by told)
   pub faults : FaultsTold end.0 told
   pub done : last.done ≡ end.1.done
   pub starved : last.starved ≡ true → end.1.starved ≡ true
-  pub kept : (host : List ℕ) → IsBase words host → (path : PathParts) (bytes : List ℕ)
-      → IsLastClose told path bytes → IsKept host path bytes end.1 made.up
+  pub kept : (base : BaseParts) → IsBase words base → (path : PathParts) (bytes : List ℕ)
+      → IsLastClose told path bytes → IsKept base path bytes end.1 made.up
   pub undrained : NothingSent end.0 made.up
-  pub sent : (host : List ℕ) → IsBase words host → SentOnce host told (connections_of made.up)
+  pub sent : (base : BaseParts) → IsBase words base → SentOnce base told (connections_of made.up)

@@ -3,7 +3,7 @@ use Rattle.std.specs.Prelude.{◌≡◌, ◌≢◌, ◌<◌, ◌≤◌, ◌==◌
 use Rattle.std.specs.List.{list_all}
 use Rattle.std.specs.Str.{IsUtf8}
 use Rattle.dav_text.specs.Path.{PathParts}
-use Rattle.dav_text.specs.Reading.{top_path, typed_of}
+use Rattle.dav_text.specs.Reading.{typed_of}
 
 -- a line without one carriage return at its end
 abbrev pub without_return : List ℕ → List ℕ
@@ -42,24 +42,24 @@ IsUnbroken (b ∷ bytes) = (b ≢ 32) × IsUnbroken bytes
 abbrev pub is_bare : List ℕ → Bool
 is_bare bytes = list_all (λ b. not (b == 9 || b == 34)) bytes
 
--- the word is this path as it is typed, and can name a file: no slash, `.` or `..` ends it
-pub record IsFileWord (word : List ℕ) (path : PathParts) : Type 0 where
+-- the word is this path as it is typed at the current path, and can name a file: no slash, `.` or `..` ends it
+pub record IsFileWord (current : PathParts) (word : List ℕ) (path : PathParts) : Type 0 where
   pub utf8 : IsUtf8 word
   pub bare : is_bare word ≡ true
-  pub typed : typed_of top_path word ≡ Ok path
+  pub typed : typed_of current word ≡ Ok path
   pub file : path.slash ≡ false
 
--- the line stores these bytes under this path
-pub record IsPut (line : List ℕ) (path : PathParts) (bytes : List ℕ) : Type 0 where
+-- at the current path the line stores these bytes under this path
+pub record IsPut (current : PathParts) (line : List ℕ) (path : PathParts) (bytes : List ℕ) : Type 0 where
   pub target : List ℕ
   pub spelled : line ≡ codes "fput " ++ (target ++ 32 ∷ bytes)
   pub unbroken : IsUnbroken target
-  pub word : IsFileWord target path
+  pub word : IsFileWord current target path
   pub argument : IsArgument bytes
   pub short : length line < 65536
 
-abbrev pub IsNoPut : List ℕ → Type 0
-IsNoPut line = (path : PathParts) (bytes : List ℕ) → ¬ (IsPut line path bytes)
+abbrev pub IsNoPut : PathParts → List ℕ → Type 0
+IsNoPut current line = (path : PathParts) (bytes : List ℕ) → ¬ (IsPut current line path bytes)
 
 -- the first blank of some bytes
 pub record IsFirstBlank (bytes : List ℕ) (at : ℕ) : Type 0 where

@@ -1,5 +1,5 @@
 -- A whole run of the program, from its words, the input and the answers of the sink and the wire.
-use Rattle.std.specs.Prelude.{◌≡◌, ℕ, zero, List, [], ◌++◌, length, codes, decimal, Bool, true, false, if◌then◌else◌, refl}
+use Rattle.std.specs.Prelude.{◌≡◌, ◌⊎◌, ℕ, zero, List, [], ◌++◌, length, codes, decimal, Bool, true, false, if◌then◌else◌, refl}
 use Rattle.std.proofs.Common.{append_assoc, append-nil, ap, ◌∙◌}
 use Rattle.dav_machine.specs.Log.{any_failed}
 use Rattle.dav_machine.specs.Devices.{Devices, one_device, answers_before, answers_before-append}
@@ -7,7 +7,9 @@ use Rattle.dav_machine.specs.Machine.{Run, Machine, give, and_then, Does}
 use Rattle.dav_machine.specs.Part.{Part, lift}
 use Rattle.dav_edge.specs.Device.{Call, Answer, Happened, DeviceLog, Grew, given, is_failure}
 use Rattle.dav_edge.specs.Whole.{Sends}
+use Rattle.dav_text.specs.Reading.{top_path}
 use Rattle.dav_desk.specs.Table.{Table}
+use Rattle.dav_uri.specs.Target.{BaseParts}
 use Rattle.dav_desk.specs.Kept.{files_of, lost_files_of}
 use Rattle.davsh.specs.declared.ended.Ended.{Ended}
 use Rattle.davsh.specs.declared.ended.Status.{Status}
@@ -85,10 +87,10 @@ abbrev pub ending : Status → State → Ending
 ending s st = (s, record { queued = files_of st.table.queued; lost = lost_files_of st.table.lost; starved = st.starved; done = st.done })
 
 abbrev pub with_table : State → Table → State
-with_table st table = state table st.faulty st.starved st.done
+with_table st table = state st.current table st.faulty st.starved st.done
 
 abbrev pub without_memory : State → State
-without_memory st = state st.table st.faulty true st.done
+without_memory st = state st.current st.table st.faulty true st.done
 
 abbrev pub RunMachine : Type 1
 RunMachine = Machine Made Answers Ending
@@ -130,30 +132,33 @@ after_drain st true = Closes st
 after_drain st false = Starves st
 
 -- what follows when the shell has stopped
-abbrev pub after_shell : List ℕ → State → Stop → RunMachine
-after_shell host st Output = give both (ending status.Output st)
-after_shell host st Input = Says input_end (ending status.Input st)
-after_shell host st End = and_then both (lift the_wire (Drains host st.table)) (λ r. after_drain (with_table st r.1) r.0)
+abbrev pub after_shell : BaseParts → State → Stop → RunMachine
+after_shell base st Output = give both (ending status.Output st)
+after_shell base st Input = Says input_end (ending status.Input st)
+after_shell base st End = and_then both (lift the_wire (Drains base st.table)) (λ r. after_drain (with_table st r.1) r.0)
 
--- the run with this host
-abbrev pub RunsOn : List ℕ → List ℕ → Bool → RunMachine
-RunsOn host bytes failed = and_then both (lift the_sink (Shell bytes failed [] fresh_state)) (λ r. after_shell host r.1 r.0)
+-- the run with this base
+abbrev pub RunsOn : BaseParts → List ℕ → Bool → RunMachine
+RunsOn base bytes failed = and_then both (lift the_sink (Shell bytes failed [] (fresh_state base.path))) (λ r. after_shell base r.1 r.0)
 
--- The run of these words over these bytes of input, behind which the source failed or not.
+-- The run of these words over these bytes of input, behind which the source failed or not. Where there was no memory to
+-- read the words the source is not called.
 pub data Runs (words : List (List ℕ)) (bytes : List ℕ) (failed : Bool) (answers : Answers) (run : Run Made Answers Ending) : Type 0 where
-  refused : HasNoBase words → Says words_end (ending status.Words fresh_state) answers run → Runs words bytes failed answers run
-  on : (host : List ℕ) → IsBase words host → RunsOn host bytes failed answers run → Runs words bytes failed answers run
+  refused : HasNoBase words → Says words_end (ending status.Words (fresh_state top_path)) answers run → Runs words bytes failed answers run
+  unread : bytes ≡ [] → failed ≡ false → Starves (fresh_state top_path) answers run → Runs words bytes failed answers run
+  on : (base : BaseParts) → IsBase words base → RunsOn base bytes failed answers run → Runs words bytes failed answers run
 
 -- an end that makes calls on the sink alone
 abbrev pub EndsSink : DeviceLog → DeviceLog → RunMachine → Ending → Type 0
 EndsSink old new machine end = (up : DeviceLog) → Does both (BothGrew old new up up) machine end
 
 -- How the source went, by the status: it failed in the last call where that is the status, and only there. It said
--- that its end was there where the input was read to its end. Where the words were refused it wasn't called.
+-- that its end was there where the input was read to its end. Where the words were refused, or there was no memory for
+-- them, it wasn't called.
 abbrev pub EndHeard : Status → List Happened → Type 0
 EndHeard status.Done heard = HeardEnd heard
 EndHeard status.Faults heard = HeardEnd heard
-EndHeard status.Memory heard = HeardEnd heard
+EndHeard status.Memory heard = (heard ≡ []) ⊎ HeardEnd heard
 EndHeard status.Words heard = heard ≡ []
 EndHeard status.Input heard = HeardFailure heard
 EndHeard status.Output heard = any_failed is_failure heard ≡ false

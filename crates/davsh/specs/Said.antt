@@ -6,7 +6,7 @@ use Rattle.davsh.specs.declared.shell.Said.TheVariants.{Nothing, Closed, Syntax,
 use Rattle.davsh.specs.Shell.{State, state, syntax_line, limit_line, memory_line}
 
 abbrev pub state_of : Shell → State
-state_of shell = state shell.desk shell.faulty shell.starved shell.done
+state_of shell = state shell.current shell.desk shell.faulty shell.starved shell.done
 
 -- the text that is printed, where the answer to a store is this
 abbrev pub said_text : Said → List ℕ → List ℕ

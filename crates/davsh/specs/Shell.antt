@@ -16,29 +16,30 @@ use Rattle.davsh.specs.declared.stop.Stop.{Stop}
 use Rattle.davsh.specs.declared.stop.Stop.TheVariants.{End, Input, Output}
 use Rattle.davsh.specs.Line.{without_return, IsPut, IsNoPut}
 
--- the desk's table, whether a line answered a fault, whether there was want of memory, and how many lines
+-- the current path, the desk's table, whether a line answered a fault, whether there was want of memory, and how many lines
 -- were carried out before the first such want
 pub record State : Type 0 where
+  pub current : PathParts
   pub table : Table
   pub faulty : Bool
   pub starved : Bool
   pub done : ℕ
 
-abbrev pub state : Table → Bool → Bool → ℕ → State
-state table faulty starved done = record { table = table; faulty = faulty; starved = starved; done = done }
+abbrev pub state : PathParts → Table → Bool → Bool → ℕ → State
+state current table faulty starved done = record { current = current; table = table; faulty = faulty; starved = starved; done = done }
 
-abbrev pub fresh_state : State
-fresh_state = state fresh_table false false 0
+abbrev pub fresh_state : PathParts → State
+fresh_state current = state current fresh_table false false 0
 
 -- one line more, unless there was want of memory; a u64 counts no further than it goes
 abbrev pub counted : State → State
-counted st = state st.table st.faulty st.starved (if st.starved then st.done else min (st.done + 1) 18446744073709551615)
+counted st = state st.current st.table st.faulty st.starved (if st.starved then st.done else min (st.done + 1) 18446744073709551615)
 
 abbrev pub faulted : State → State
-faulted st = state st.table true st.starved st.done
+faulted st = state st.current st.table true st.starved st.done
 
 abbrev pub starved : State → State
-starved st = state st.table true true st.done
+starved st = state st.current st.table true true st.done
 
 -- the line that a store prints
 abbrev pub closed_line : PathParts → ℕ → List ℕ
@@ -71,12 +72,12 @@ limit_line which = codes "fault: limit " ++ which_name which ++ codes "\n"
 -- A line is carried out: what it prints, and the state after it. Want of memory may meet any line.
 pub data Answered (before : State) (line printed : List ℕ) (now : State) : Type 0 where
   nothing : line ≡ [] → printed ≡ [] → now ≡ before → Answered before line printed now
-  syntax : line ≢ [] → IsNoPut line → printed ≡ syntax_line → now ≡ faulted before → Answered before line printed now
-  closed : (path : PathParts) (bytes : List ℕ) (table : Table) (answer : DeskAnswer) → IsPut line path bytes
+  syntax : line ≢ [] → IsNoPut before.current line → printed ≡ syntax_line → now ≡ faulted before → Answered before line printed now
+  closed : (path : PathParts) (bytes : List ℕ) (table : Table) (answer : DeskAnswer) → IsPut before.current line path bytes
       → after before.table (Store path bytes) ≡ (table, Ok answer)
-      → printed ≡ closed_line path (length bytes) → now ≡ state table before.faulty before.starved before.done
+      → printed ≡ closed_line path (length bytes) → now ≡ state before.current table before.faulty before.starved before.done
       → Answered before line printed now
-  limit : (path : PathParts) (bytes : List ℕ) (which : Which) → IsPut line path bytes
+  limit : (path : PathParts) (bytes : List ℕ) (which : Which) → IsPut before.current line path bytes
       → after before.table (Store path bytes) ≡ (before.table, Err (Limit which))
       → printed ≡ limit_line which → now ≡ faulted before → Answered before line printed now
   memory : printed ≡ memory_line → now ≡ starved before → Answered before line printed now

@@ -8,11 +8,12 @@ ghost use Rattle.davsh.specs.Drain.{Drains, IsFlying, done_of, outcome_of};
 use crate::exchange::upload;
 use dav_desk::{Answer, Ask, Desk, Done};
 use dav_edge::Wire;
+use dav_uri::Base;
 use std::alloc::Global;
 
 /// Sends each file that is queued once. False is want of memory.
-pub fn drain<V: Wire>(alloc: Global, host: &str, wire: &mut V, desk: &mut Desk) -> bool
-    ensures { DoesOn (V.log wire.old) (V.log wire.new) (Drains host.now desk.old) (result, desk.new) }
+pub fn drain<V: Wire>(alloc: Global, base: &Base, wire: &mut V, desk: &mut Desk) -> bool
+    ensures { DoesOn (V.log wire.old) (V.log wire.new) (Drains base.now desk.old) (result, desk.new) }
 {
     loop {
         let Ok(answer) = desk.step(&Ask::Take) else {
@@ -22,7 +23,7 @@ pub fn drain<V: Wire>(alloc: Global, host: &str, wire: &mut V, desk: &mut Desk) 
             return true;
         };
         let number = job.number;
-        let Ok(came) = upload(alloc, host, wire, job) else {
+        let Ok(came) = upload(alloc, base, wire, job) else {
             return false;
         };
         settle(desk, number, done_of(came));

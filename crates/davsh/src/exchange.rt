@@ -7,46 +7,44 @@ ghost use Rattle.dav_frame.specs.Reading.{FromPhase, IsWhole, IsReading};
 use dav_desk::Job;
 use dav_edge::{Wire, send_whole};
 use dav_frame::{FieldName, Fields, FrameFault, ReplyReader, Req, write_request};
-use dav_text::{Memory, Method, Text};
+use dav_text::{Memory, Method};
+use dav_uri::Base;
 use std::alloc::Global;
-
-/// The port of a base without one: RFC 9110 section 4.2.1.
-const HTTP_PORT: u16 = 80;
 
 /// Sends the job's file as a new one, and gives the status of a whole reply.
 pub fn upload<V: Wire>(
     alloc: Global,
-    host: &str,
+    base: &Base,
     wire: &mut V,
     job: Job,
 ) -> Result<Option<u16>, Memory>
-    ensures { DoesOn (V.log wire.old) (V.log wire.new) (Uploads host.now job.path job.bytes) result }
+    ensures { DoesOn (V.log wire.old) (V.log wire.new) (Uploads base.now job.path job.bytes) result }
 {
-    let Ok(text) = write_put(alloc, host, job) else {
+    let Ok(text) = write_put(alloc, base, job) else {
         return Err(Memory);
     };
-    exchange(alloc, host, wire, text.as_slice())
+    exchange(alloc, base, wire, text.as_slice())
 }
 
 /// The text of the request that stores the job's file.
-fn write_put(alloc: Global, host: &str, job: Job) -> Result<Vec<u8>, Memory>
-    ensures { IfOk result (λ text. text.items ≡ put_text host.now job.path job.bytes) }
+fn write_put(alloc: Global, base: &Base, job: Job) -> Result<Vec<u8>, Memory>
+    ensures { IfOk result (λ text. text.items ≡ put_text base.now job.path job.bytes) }
 {
-    let req = put_request(alloc, host, job)?;
+    let req = put_request(alloc, base, job)?;
     let mut text = Vec::new(alloc);
     write_request(&req, &mut text)?;
     Ok(text)
 }
 
 /// The request that stores the job's file, only if there is none there: RFC 9110 section 13.1.2.
-fn put_request(alloc: Global, host: &str, job: Job) -> Result<Req, Memory>
-    ensures { IfOk result (λ req. req ≡ put_request host.now job.path job.bytes) }
+fn put_request(alloc: Global, base: &Base, job: Job) -> Result<Req, Memory>
+    ensures { IfOk result (λ req. req ≡ put_request base.now job.path job.bytes) }
 {
     let mut fields = Fields::new(alloc);
     fields.set(FieldName::IfNoneMatch, b"*")?;
     Ok(Req {
         method: Method::Put,
-        host: Text::copy_of(alloc, host)?,
+        host: base.host_field(alloc)?,
         target: job.path.escaped(alloc)?,
         fields,
         body: job.bytes,
@@ -56,13 +54,13 @@ fn put_request(alloc: Global, host: &str, job: Job) -> Result<Req, Memory>
 /// Connects, sends the text, reads one reply and shuts. Gives the status of a whole reply.
 fn exchange<V: Wire>(
     alloc: Global,
-    host: &str,
+    base: &Base,
     wire: &mut V,
     text: &[u8],
 ) -> Result<Option<u16>, Memory>
-    ensures { DoesOn (V.log wire.old) (V.log wire.new) (Exchanges host.now text.now) result }
+    ensures { DoesOn (V.log wire.old) (V.log wire.new) (Exchanges base.now text.now) result }
 {
-    let Ok(()) = wire.connect(host, HTTP_PORT) else {
+    let Ok(()) = wire.connect(base.host(), base.port()) else {
         return Ok(None);
     };
     let heard = talk(alloc, wire, text);

@@ -17,9 +17,9 @@ pub struct Put {
     pub bytes: Blob,
 }
 
-/// The store that the line asks for, where it is `fput`, a path of a file and printable characters.
-pub fn read_put(alloc: Global, line: &[u8]) -> Result<Option<Put>, Memory>
-    ensures { IfOk result (λ put. MatchOption put (IsNoPut line.now) (λ p. IsPut line.now p.path p.bytes)) }
+/// The store that the line asks for at the current path, where it is `fput`, a path of a file and printable characters.
+pub fn read_put(alloc: Global, current: &Path, line: &[u8]) -> Result<Option<Put>, Memory>
+    ensures { IfOk result (λ put. MatchOption put (IsNoPut current.now line.now) (λ p. IsPut current.now line.now p.path p.bytes)) }
 {
     if line.len() >= LINE_MAX {
         return Ok(None);
@@ -27,7 +27,7 @@ pub fn read_put(alloc: Global, line: &[u8]) -> Result<Option<Put>, Memory>
     let Some((target, bytes)) = put_words(line) else {
         return Ok(None);
     };
-    let Some(path) = file_word(alloc, target)? else {
+    let Some(path) = file_word(alloc, current, target)? else {
         return Ok(None);
     };
     let Ok(bytes) = Blob::copy_of(alloc, bytes) else {
@@ -36,14 +36,14 @@ pub fn read_put(alloc: Global, line: &[u8]) -> Result<Option<Put>, Memory>
     Ok(Some(Put { path, bytes }))
 }
 
-/// The path of a file that the word is, if it is one.
-fn file_word(alloc: Global, word: &str) -> Result<Option<Path>, Memory>
-    ensures { IfOk result (λ path. MatchOption path ((p : PathParts) → ¬ (IsFileWord word.now p)) (IsFileWord word.now)) }
+/// The path of a file that the word is at the current path, if it is one.
+fn file_word(alloc: Global, current: &Path, word: &str) -> Result<Option<Path>, Memory>
+    ensures { IfOk result (λ path. MatchOption path ((p : PathParts) → ¬ (IsFileWord current.now word.now p)) (IsFileWord current.now word.now)) }
 {
     if !is_bare(word.as_bytes()) {
         return Ok(None);
     }
-    match Path::typed(alloc, &Path::top(alloc), word) {
+    match Path::typed(alloc, current, word) {
         Ok(path) if !path.has_slash() => Ok(Some(path)),
         Ok(_) => Ok(None),
         Err(PathFault::NotRooted) => Ok(None),
@@ -63,7 +63,7 @@ fn is_bare(bytes: &[u8]) -> bool
 
 /// The two words after `fput`, where the second is one that can be stored.
 fn put_words(line: &[u8]) -> Option<(&str, &[u8])>
-    ensures { MatchOption result (IsNoPut line.now)
+    ensures { MatchOption result ((current : PathParts) → IsNoPut current line.now)
         (λ words. IsSplit line.now words.0.now words.1.now) }
 {
     let Some(words) = line.strip_prefix(b"fput ") else {

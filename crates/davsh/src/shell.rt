@@ -12,6 +12,8 @@ use std::alloc::Global;
 #[derive(Drop)]
 pub struct Shell {
     pub alloc: Global,
+    /// Where a typed path stands that is not rooted.
+    pub current: Path,
     pub desk: Desk,
     /// The answer to a store.
     pub closed: Vec<u8>,
@@ -32,11 +34,12 @@ pub enum Said {
 
 impl Shell {
     /// A desk that nothing was asked of, and no line yet.
-    pub fn new(alloc: Global) -> Shell
-        ensures { state_of result ≡ fresh_state }
+    pub fn new(alloc: Global, current: Path) -> Shell
+        ensures { state_of result ≡ fresh_state current }
     {
         Shell {
             alloc,
+            current,
             desk: Desk::fresh(alloc),
             closed: Vec::new(alloc),
             faulty: false,
@@ -52,7 +55,7 @@ impl Shell {
         if line.is_empty() {
             return Said::Nothing;
         }
-        match read_put(self.alloc, line) {
+        match read_put(self.alloc, &self.current, line) {
             Ok(Some(put)) => self.store(put),
             Ok(None) => self.refuse(),
             Err(_) => self.starve(),
@@ -62,7 +65,7 @@ impl Shell {
     // Stores the bytes. The answer is written first, so that there is no want of memory behind the
     // desk's step.
     fn store(&mut self, put: Put) -> Said
-        ensures { (line : List ℕ) → IsPut line put.path put.bytes
+        ensures { (line : List ℕ) → IsPut self.old.current line put.path put.bytes
             → Answered (state_of self.old) line (said_text result self.new.closed.items) (state_of self.new) }
     {
         self.closed.clear();

@@ -298,15 +298,18 @@ fn a_failing_device_ends_the_run(rt: HostRuntime) -> Result<(), Fail> {
 #[test]
 fn other_words_are_refused(rt: HostRuntime) -> Result<(), Fail> {
     let alloc = rt.alloc();
-    let refused: [&'static str; 8] = [
+    let refused: [&'static str; 11] = [
         "",
+        "h/",
         "http:///",
-        "http://h",
-        "http://H/",
+        "http://h:65536/",
         "https://h/",
-        "http://h/x",
-        "http://h:80/",
-        "http://aaaaaaaaaaaaaaaaaaaaaaaaaaaaaaaaaaaaaaaaaaaaaaaaaaaaaaaaaaaaaaaa/",
+        "ftp://h/",
+        "http://u@h/",
+        "http://u:p@h/",
+        "http://h/?q",
+        "http://h/#f",
+        "http://h/%zz/",
     ];
     for (at, word) in refused.iter().enumerate() {
         let one = Script {
@@ -316,6 +319,67 @@ fn other_words_are_refused(rt: HostRuntime) -> Result<(), Fail> {
         let ended = outcome_of(alloc, &one)?;
         assert_eq!(rt; ended.status, Status::Words, "at word {at}");
         assert!(rt; ended.out.as_slice() == b"end: words\n".as_slice());
+    }
+    Ok(())
+}
+
+#[test]
+fn requests_go_to_the_base(rt: HostRuntime) -> Result<(), Fail> {
+    let alloc = rt.alloc();
+    let cases: [(&'static str, &'static str, u16, &[u8], &[u8]); 4] = [
+        (
+            "http://h:8080/dav",
+            "h",
+            8080,
+            b"closed /dav/a 1\nclosed /b 1\n",
+            b"PUT /dav/a HTTP/1.1\r\nHost: h:8080\r\n",
+        ),
+        (
+            "http://H/%64av/x/../",
+            "h",
+            80,
+            b"closed /dav/a 1\nclosed /b 1\n",
+            b"PUT /dav/a HTTP/1.1\r\nHost: h\r\n",
+        ),
+        (
+            "http://h:80",
+            "h",
+            80,
+            b"closed /a 1\nclosed /b 1\n",
+            b"PUT /a HTTP/1.1\r\nHost: h\r\n",
+        ),
+        (
+            "http://127.0.0.1:8080/",
+            "127.0.0.1",
+            8080,
+            b"closed /a 1\nclosed /b 1\n",
+            b"PUT /a HTTP/1.1\r\nHost: 127.0.0.1:8080\r\n",
+        ),
+    ];
+    for (at, (word, host, port, out, begins)) in cases.iter().enumerate() {
+        let streams = [CREATED, CREATED];
+        let one = Script {
+            word,
+            ..on_input(b"fput a x\nfput /b y\n", streams.as_slice())
+        };
+        let ended = outcome_of(alloc, &one)?;
+        assert_eq!(rt; ended.status, Status::Done, "at case {at}");
+        assert!(rt; ended.out.as_slice() == *out, "at case {at}");
+        assert_eq!(rt; ended.up.len(), 2);
+        for connection in &ended.up {
+            assert!(rt; connection.host.as_str() == *host, "at case {at}");
+            assert_eq!(rt; connection.port, *port, "at case {at}");
+        }
+        assert!(rt;
+            ended.up[0].sent.as_slice().starts_with(begins),
+            "at case {at}"
+        );
+        assert!(rt;
+            ended.up[1]
+                .sent
+                .as_slice()
+                .starts_with(b"PUT /b HTTP/1.1\r\n")
+        );
     }
     Ok(())
 }

@@ -1,8 +1,10 @@
-ghost use Rattle.std.specs.Prelude.{◌≡◌, ◌↔◌, IfOk, true, false, if◌then◌else◌};
+ghost use Rattle.std.specs.Prelude.{◌≡◌, ℕ, List, IfOk, MatchOption, true, false, if◌then◌else◌};
 ghost use Rattle.dav_machine.specs.Log.{Rose};
 ghost use Rattle.dav_machine.specs.Machine.{Does};
-ghost use Rattle.davsh.specs.Words.{HasNoBase, texts_of};
+ghost use Rattle.dav_edge.specs.Device.{DeviceLog};
+ghost use Rattle.davsh.specs.Words.{HasNoBase, IsBase, IsRefusal, texts_of};
 ghost use Rattle.davsh.specs.Said.{state_of};
+ghost use Rattle.davsh.specs.Shell.{fresh_state};
 ghost use Rattle.davsh.specs.Run.{both, BothGrew, Ran, EndsSink, Starves, Closes, after_shell, ending, left_text};
 ghost use Rattle.davsh.specs.Function.{IsTheRun, BeginsFed};
 ghost use Rattle.davsh.specs.Kept.{Keeps};
@@ -14,9 +16,10 @@ use crate::ended::{Ended, Status};
 use crate::input::read_lines;
 use crate::shell::Shell;
 use crate::stop::Stop;
-use crate::words::host_of;
+use crate::words::base_of;
 use dav_edge::{Sink, Source, Wire, put_whole};
-use dav_text::{Memory, decimal};
+use dav_text::{Memory, Path, decimal};
+use dav_uri::Base;
 use std::alloc::Global;
 
 fn ended(shell: Shell, status: Status) -> (Status, Ended)
@@ -24,6 +27,7 @@ fn ended(shell: Shell, status: Status) -> (Status, Ended)
 {
     let Shell {
         alloc: _,
+        current: _,
         desk,
         closed: _,
         faulty: _,
@@ -66,7 +70,8 @@ fn write_left(alloc: Global, queued: usize, lost: usize) -> Result<Vec<u8>, Memo
 
 /// Want of memory ends the run.
 fn starve<O: Sink>(out: &mut O, mut shell: Shell) -> (Status, Ended)
-    ensures { EndsSink (O.log out.old) (O.log out.new) (Starves (state_of shell)) result }
+    ensures ends { EndsSink (O.log out.old) (O.log out.new) (Starves (state_of shell)) result }
+    ensures status { result.0 ≡ status.Memory }
 {
     shell.starved = true;
     let _ = put_whole(out, b"end: memory\n".as_slice());
@@ -93,18 +98,60 @@ fn close<O: Sink>(out: &mut O, shell: Shell) -> (Status, Ended)
 
 /// The end of the input: the drain, and what is left.
 fn finish<O: Sink, V: Wire>(
-    host: &str,
+    base: &Base,
     out: &mut O,
     up_wire: &mut V,
     mut shell: Shell,
 ) -> (Status, Ended)
     ensures { Does both (BothGrew (O.log out.old) (O.log out.new) (V.log up_wire.old) (V.log up_wire.new))
-        (after_shell host.now (state_of shell) stops.End) result }
+        (after_shell base.now (state_of shell) stops.End) result }
 {
-    if drain(shell.alloc, host, up_wire, &mut shell.desk) {
+    if drain(shell.alloc, base, up_wire, &mut shell.desk) {
         close(out, shell)
     } else {
         starve(out, shell)
+    }
+}
+
+/// The base that the words name, and a shell at its path; None where they name none.
+fn begin(alloc: Global, words: &[String]) -> Result<Option<(Base, Shell)>, Memory>
+    ensures { IfOk result (λ begun. MatchOption begun (HasNoBase (texts_of words.now))
+        (λ b. IsBase (texts_of words.now) b.0 × (state_of b.1 ≡ fresh_state b.0.path))) }
+{
+    let Some(base) = base_of(alloc, words)? else {
+        return Ok(None);
+    };
+    let current = base.path().copy(alloc)?;
+    Ok(Some((base, Shell::new(alloc, current))))
+}
+
+/// The words name no base.
+fn refuse<O: Sink>(alloc: Global, out: &mut O) -> (Status, Ended)
+    ensures { (words : List (List ℕ)) (source up : DeviceLog) → HasNoBase words
+        → Ran words source source (O.log out.old) (O.log out.new) up up result }
+{
+    let _ = put_whole(out, b"end: words\n".as_slice());
+    ended(Shell::new(alloc, Path::top(alloc)), Status::Words)
+}
+
+/// The run of a fresh shell at the base's path.
+fn run_on<S: Source, O: Sink, V: Wire>(
+    base: &Base,
+    mut shell: Shell,
+    input: &mut S,
+    out: &mut O,
+    up_wire: &mut V,
+) -> (Status, Ended)
+    ensures { (words : List (List ℕ)) → IsBase words base.now → state_of shell ≡ fresh_state base.now.path
+        → Ran words (S.log input.old) (S.log input.new) (O.log out.old) (O.log out.new) (V.log up_wire.old) (V.log up_wire.new) result }
+{
+    match read_lines(input, out, &mut shell) {
+        Stop::Output => ended(shell, Status::Output),
+        Stop::Input => {
+            let _ = put_whole(out, b"end: input\n".as_slice());
+            ended(shell, Status::Input)
+        }
+        Stop::End => finish(base, out, up_wire, shell),
     }
 }
 
@@ -119,25 +166,17 @@ fn run_all<S: Source, O: Sink, V: Wire>(
     ensures { Ran (texts_of words.now) (S.log input.old) (S.log input.new) (O.log out.old) (O.log out.new)
         (V.log up_wire.old) (V.log up_wire.new) result }
 {
-    let Some(host) = host_of(words) else {
-        let _ = put_whole(out, b"end: words\n".as_slice());
-        return ended(Shell::new(alloc), Status::Words);
-    };
-    let mut shell = Shell::new(alloc);
-    match read_lines(input, out, &mut shell) {
-        Stop::Output => ended(shell, Status::Output),
-        Stop::Input => {
-            let _ = put_whole(out, b"end: input\n".as_slice());
-            ended(shell, Status::Input)
-        }
-        Stop::End => finish(host, out, up_wire, shell),
+    match begin(alloc, words) {
+        Err(_) => starve(out, Shell::new(alloc, Path::top(alloc))),
+        Ok(None) => refuse(alloc, out),
+        Ok(Some((base, shell))) => run_on(&base, shell, input, out, up_wire),
     }
 }
 
 /// Runs the program: reads lines from `input`, carries each out and writes its answer to `out`,
 /// and at the end of the input sends each file that is still queued once on `up_wire`.
 ///
-/// The one word is `http://HOST/`. A line `fput PATH TEXT` stores the text under the path, and an
+/// The one word is the URL of a base. A line `fput PATH TEXT` stores the text under the path, and an
 /// empty line does nothing. Every other line answers a fault and changes nothing.
 pub fn run<S: Source, O: Sink, V: Wire>(
     alloc: Global,
@@ -148,7 +187,7 @@ pub fn run<S: Source, O: Sink, V: Wire>(
 ) -> (Status, Ended)
     ensures kept { Keeps (texts_of words.now) (S.log input.old) (S.log input.new) (O.log out.old) (O.log out.new)
         (V.log up_wire.old) (V.log up_wire.new) result }
-    ensures words { (result.0 ≡ status.Words) ↔ HasNoBase (texts_of words.now) }
+    ensures words { IsRefusal (texts_of words.now) result.0 }
     ensures input { result.0 ≡ status.Input → Rose (S.log input.old).faults (S.log input.new).faults }
     ensures output { result.0 ≡ status.Output → Rose (O.log out.old).faults (O.log out.new).faults }
     ensures memory { result.0 ≡ status.Memory → result.1.starved ≡ true }

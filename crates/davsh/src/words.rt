@@ -1,25 +1,23 @@
-ghost use Rattle.std.specs.Prelude.{MatchOption, IsTrue, ◌↔◌};
-ghost use Rattle.davsh.specs.Words.{IsBase, IsHost, HasNoBase};
-ghost use Rattle.davsh.specs.Words.{texts_of};
+ghost use Rattle.std.specs.Prelude.{IfOk, MatchOption};
+ghost use Rattle.davsh.specs.Words.{HasNoBase, IsBase, texts_of};
 
-/// The host that the words name: the one word is `http://HOST/`, and HOST is 1 to 63 small letters.
-pub fn host_of(words: &[String]) -> Option<&str>
-    ensures { MatchOption result (HasNoBase (texts_of words.now))
-        (λ host. IsBase (texts_of words.now) host.now) }
+use dav_text::Memory;
+use dav_uri::{Base, UriFault};
+use std::alloc::Global;
+
+/// The base that the words name, if the one word is the URL of a base.
+pub fn base_of(alloc: Global, words: &[String]) -> Result<Option<Base>, Memory>
+    ensures { IfOk result (λ base. MatchOption base (HasNoBase (texts_of words.now))
+        (IsBase (texts_of words.now))) }
 {
     let [word] = words else {
-        return None;
+        return Ok(None);
     };
-    let host = word.as_str().strip_prefix("http://")?.strip_suffix("/")?;
-    if is_host(host.as_bytes()) {
-        Some(host)
-    } else {
-        None
+    match Base::read(alloc, word.as_str()) {
+        Ok(base) => Ok(Some(base)),
+        Err(UriFault::NotAUrl) => Ok(None),
+        Err(UriFault::NotHttp) => Ok(None),
+        Err(UriFault::OtherServer { .. }) => Ok(None),
+        Err(UriFault::Memory) => Err(Memory),
     }
-}
-
-fn is_host(host: &[u8]) -> bool
-    ensures { IsTrue result ↔ IsHost host.now }
-{
-    !host.is_empty() && host.len() <= 63 && host.iter().all(|b| b.is_ascii_lowercase())
 }

@@ -6,30 +6,30 @@ use Rattle.davsh.proofs.Draining.{drains_refused, drains_idle, drains_starved, d
 use Rattle.davsh.proofs.drain.drain.Goals as goal
 
 pub loop-answer-init : goal.loop-answer-init
-loop-answer-init g c = on_same _ (Drains c.args.host.now c.args.desk.now)
+loop-answer-init g c = on_same _ (Drains c.args.base.now c.args.desk.now)
 
 pub returns-in_default : goal.returns-in_default
 returns-in_default g c =
-    on_then _ _ _ (Drains c.args.host.now c.args.desk.now) (Drains c.args.host.now c.loop-answer.desk) (give one_device _) c.loop-answer.invariant
-    (drains_refused _ c.args.host.now c.loop-answer.desk c.step.new.self c.in_default.field-0 c.in_default.ensures.step)
+    on_then _ _ _ (Drains c.args.base.now c.args.desk.now) (Drains c.args.base.now c.loop-answer.desk) (give one_device _) c.loop-answer.invariant
+    (drains_refused _ c.args.base.now c.loop-answer.desk c.step.new.self c.in_default.field-0 c.in_default.ensures.step)
 
 pub returns-in_default-answer : goal.returns-in_default-answer
 returns-in_default-answer g c =
-    on_then _ _ _ (Drains c.args.host.now c.args.desk.now) (Drains c.args.host.now c.loop-answer.desk) (give one_device _) c.loop-answer.invariant
-    (drains_idle _ c.args.host.now c.loop-answer.desk c.step.new.self c.in-Ok.answer c.in-Ok.ensures.step c.in_default-answer.not-Took)
+    on_then _ _ _ (Drains c.args.base.now c.args.desk.now) (Drains c.args.base.now c.loop-answer.desk) (give one_device _) c.loop-answer.invariant
+    (drains_idle _ c.args.base.now c.loop-answer.desk c.step.new.self c.in-Ok.answer c.in-Ok.ensures.step c.in_default-answer.not-Took)
 
 pub returns-in_default-upload : goal.returns-in_default-upload
 returns-in_default-upload g c =
-    on_then _ _ _ (Drains c.args.host.now c.args.desk.now) (Drains c.args.host.now c.loop-answer.desk) (give one_device _) c.loop-answer.invariant
-    (drains_starved _ _ c.args.host.now c.loop-answer.desk c.step.new.self c.in-Took.job c.in_default-upload.field-0 (took_as c.loop-answer.desk c.step.new.self c.in-Ok.answer c.in-Took.job c.in-Ok.ensures.step c.in-Took.is) c.in_default-upload.ensures)
+    on_then _ _ _ (Drains c.args.base.now c.args.desk.now) (Drains c.args.base.now c.loop-answer.desk) (give one_device _) c.loop-answer.invariant
+    (drains_starved _ _ c.args.base.now c.loop-answer.desk c.step.new.self c.in-Took.job c.in_default-upload.field-0 (took_as c.loop-answer.desk c.step.new.self c.in-Ok.answer c.in-Took.job c.in-Ok.ensures.step c.in-Took.is) c.in_default-upload.ensures)
 
 pub settle-requires : goal.settle-requires
 settle-requires g c = takes_off c.loop-answer.desk c.step.new.self c.in-Took.job c.in-Ok.ensures.was_within (took_as c.loop-answer.desk c.step.new.self c.in-Ok.answer c.in-Took.job c.in-Ok.ensures.step c.in-Took.is)
 
 pub loop-answer-preserved : goal.loop-answer-preserved
 loop-answer-preserved g c =
-    on_then _ _ _ (Drains c.args.host.now c.args.desk.now) (Drains c.args.host.now c.loop-answer.desk) (Drains c.args.host.now c.settle.new.desk) c.loop-answer.invariant
-    (drains_turn _ _ c.args.host.now c.loop-answer.desk c.step.new.self c.settle.new.desk c.in-Took.job c.in-Ok-upload.came c.settle.ensures.0 (took_as c.loop-answer.desk c.step.new.self c.in-Ok.answer c.in-Took.job c.in-Ok.ensures.step c.in-Took.is) c.in-Ok-upload.ensures
+    on_then _ _ _ (Drains c.args.base.now c.args.desk.now) (Drains c.args.base.now c.loop-answer.desk) (Drains c.args.base.now c.settle.new.desk) c.loop-answer.invariant
+    (drains_turn _ _ c.args.base.now c.loop-answer.desk c.step.new.self c.settle.new.desk c.in-Took.job c.in-Ok-upload.came c.settle.ensures.0 (took_as c.loop-answer.desk c.step.new.self c.in-Ok.answer c.in-Took.job c.in-Ok.ensures.step c.in-Took.is) c.in-Ok-upload.ensures
     (settled_as c.step.new.self c.settle.new.desk c.in-Took.job.number c.done_of.result c.in-Ok-upload.came c.settle.ensures.0 c.done_of.ensures c.settle.ensures.1))
 
 pub loop-answer-smaller : goal.loop-answer-smaller

@@ -6,7 +6,7 @@ use Rattle.davsh.proofs.Ending.{closes_told, closes_starved}
 use Rattle.davsh.proofs.whole.close.Goals as goal
 
 pub returns-in_default : goal.returns-in_default
-returns-in_default g c = closes_starved _ _ _ _ c.starve.ensures
+returns-in_default g c = closes_starved _ _ _ _ c.starve.ensures.ends
 
 pub returns-in-Ok-put_whole : goal.returns-in-Ok-put_whole
 returns-in-Ok-put_whole g c =

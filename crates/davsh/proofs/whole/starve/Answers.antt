@@ -2,5 +2,5 @@ use Rattle.davsh.specs.Said.{state_of}
 use Rattle.davsh.proofs.Ending.{starves}
 use Rattle.davsh.proofs.whole.starve.Goals as goal
 
-pub returns : goal.returns
-returns g c = starves _ _ (state_of c.args.shell) _ _ _ c.as_slice.ensures c.put_whole.ensures c.ended.ensures
+pub returns-clause-ends : goal.returns-clause-ends
+returns-clause-ends g c = starves _ _ (state_of c.args.shell) _ _ _ c.as_slice.ensures c.put_whole.ensures c.ended.ensures
