@@ -1,0 +1,3 @@
+pub mod AsideLemmas
+pub mod ScopeLemmas
+pub mod TagLemmas
