@@ -1,3 +1,5 @@
 pub mod AsideLemmas
 pub mod ScopeLemmas
 pub mod TagLemmas
+pub mod RunLemmas
+pub mod OuterLemmas

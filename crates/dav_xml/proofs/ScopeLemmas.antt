@@ -1,9 +1,9 @@
 -- Look-ups from the innermost declarations on.
-use Rattle.std.proofs.Common.{◌≡◌, ℕ, Bool, true, false, List, [], ◌∷◌, ◌++◌, map, refl, ap, sym, ◌∙◌, Option, Some, None}
-use Rattle.std.specs.Prelude.{fold, cond, bytes_eq, is_some, option_map}
+use Rattle.std.proofs.Common.{◌≡◌, ℕ, Bool, true, false, List, [], ◌∷◌, ◌++◌, refl, ap, sym, ◌∙◌, Option, Some, None}
+use Rattle.std.specs.Prelude.{cond, bytes_eq, is_some}
 use Rattle.std.specs.List.{list_all}
 use Rattle.std.proofs.lemmas.List.Sums.{fold-append}
-use Rattle.dav_doc.specs.Names.{Binding, Name, prefix_of, lookup, base, declared, resolved, is_bound}
+use Rattle.dav_doc.specs.Names.{Binding, prefix_of, lookup, base, declared, resolved, is_bound}
 use Rattle.dav_doc.specs.Document as document
 use Rattle.dav_xml.specs.Name.{name_in}
 use Rattle.dav_xml.specs.Scope.{bindings_in, below, scope_in, Fits}

@@ -1,9 +1,9 @@
 -- One attribute more.
-use Rattle.std.proofs.Common.{◌≡◌, ℕ, Bool, true, false, ◌&&◌, ◌||◌, List, [], ◌∷◌, ◌++◌, map, refl, ap, sym, ◌∙◌, append_assoc, Option, Some, None}
+use Rattle.std.proofs.Common.{◌≡◌, ℕ, Bool, true, false, ◌&&◌, ◌||◌, List, [], ◌∷◌, ◌++◌, refl, ap, sym, ◌∙◌, append_assoc, Some, None}
 use Rattle.std.specs.Prelude.{is_some}
 use Rattle.std.specs.List.{list_all}
 use Rattle.std.proofs.lemmas.List.Folds.{list_all-append}
-use Rattle.dav_doc.specs.Names.{Name, Attribute, Binding, prefix_of, lookup, declares, declare_by, declared, is_bound, value_of}
+use Rattle.dav_doc.specs.Names.{Attribute, Binding, prefix_of, lookup, declares, declare_by, declared, is_bound, value_of}
 use Rattle.dav_doc.specs.Document as document
 use Rattle.dav_doc.specs.Machine.{with_attribute}
 use Rattle.dav_xml.specs.Name.{name_in}

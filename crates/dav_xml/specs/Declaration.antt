@@ -1,5 +1,5 @@
 -- A declaration of the code as the words that are left of it.
-use Rattle.std.specs.Prelude.{ℕ, List, [], ◌∷◌, codes}
+use Rattle.std.specs.Prelude.{ℕ, List, [], ◌∷◌}
 use Rattle.dav_doc.specs.Words as words
 use Rattle.dav_doc.specs.Words.{Want, Done, One_of, Space, Spaces, word, equals, closing, ending, version, version_number, encoding, encoding_name, utf_8, us_ascii, standalone, yes_or_no, after_version, after_encoding}
 use Rattle.dav_xml.specs.declared.declaration.Quote.{Quote}

@@ -7,3 +7,5 @@ pub mod Aside
 pub mod Section
 pub mod Tag
 pub mod Declaration
+pub mod Run
+pub mod Outer

@@ -1,5 +1,5 @@
 -- Names of the code as those of the grammar.
-use Rattle.std.specs.Prelude.{◌≡◌, ℕ, Bool, ◌&&◌, List, [], ◌∷◌, ◌++◌, map, fold, Option, Some, None, is_some, if◌then◌else◌}
+use Rattle.std.specs.Prelude.{◌≡◌, ℕ, Some, None}
 use Rattle.dav_doc.specs.Bytes as bytes
 use Rattle.dav_doc.specs.Names as names
 use Rattle.dav_doc.specs.Machine.{name_next}

@@ -1,5 +1,5 @@
 -- Bindings, open elements and tags of the code as those of the grammar.
-use Rattle.std.specs.Prelude.{◌≡◌, ℕ, Bool, List, [], ◌∷◌, ◌++◌, map, fold, Option, Some, None, is_some, if◌then◌else◌}
+use Rattle.std.specs.Prelude.{◌≡◌, List, ◌++◌, map, fold, is_some}
 use Rattle.std.specs.List.{list_all}
 use Rattle.dav_doc.specs.Names as names
 use Rattle.dav_doc.specs.Names.{lookup, base, declared, is_bound, Attribute, AreAttributes}

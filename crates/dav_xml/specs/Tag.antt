@@ -1,5 +1,5 @@
 -- What an attribute does by its name.
-use Rattle.std.specs.Prelude.{◌≡◌, List, ℕ, Option, Some, None}
+use Rattle.std.specs.Prelude.{◌≡◌, Some, None}
 use Rattle.dav_doc.specs.Names.{Name, declares, prefix_of}
 use Rattle.dav_xml.specs.declared.tag.Role.{Role}
 use Rattle.dav_xml.specs.declared.tag.Role.TheVariants.{Declares, Uses}

@@ -83,7 +83,8 @@ const ASCII: &[(u8, u8)] = &[
     (b'i', b'I'),
 ];
 
-fn is_blank(byte: u8) -> bool
+/// Whether the byte is a blank: XML 1.0, production 3.
+pub(crate) fn is_blank(byte: u8) -> bool
     ensures { result ≡ blank_lem byte }
 {
     match kind_of(byte) {

@@ -3,7 +3,9 @@ use crate::character::Owed;
 use crate::declaration::Declaration;
 use crate::kind::{ByteKind, kind_of};
 use crate::name::{Name, Next};
+use crate::outer::{Outer, Way};
 use crate::reference::{Reference, Taken};
+use crate::run::{Read, behind_return, in_text};
 use crate::scope::{Binding, Open, Tag, resolve};
 use crate::section::{Brackets, Ran, Section};
 use crate::tag::undeclares;
@@ -355,4 +357,95 @@ fn a_declaration_is_whole_or_bad_at_a_byte(rt: HostRuntime) {
     for (text, want) in table {
         assert_eq!(rt; bad_in_declaration(text), want);
     }
+}
+
+/// The first byte that does more than to go on before the root, with its place.
+fn first_way(from: Outer, text: &[u8]) -> Option<(Way, usize)> {
+    let mut outer = from;
+    for (at, byte) in text.iter().enumerate() {
+        match outer.after(*byte) {
+            Way::Further(next) => outer = next,
+            way => return Some((way, at)),
+        }
+    }
+    None
+}
+
+#[test]
+fn a_document_begins_with_a_mark_a_declaration_blanks_or_markup(rt: HostRuntime) {
+    let unlike = Way::Instruction(Aside::InTarget(Target::Unlike));
+    let table: [(Outer, &[u8], Option<(Way, usize)>); 11] = [
+        (Outer::Begin, b"<", Some((Way::FirstMarkup, 0))),
+        (Outer::Begin, b"\xef\xbb\xbf<", Some((Way::FirstMarkup, 3))),
+        (Outer::Begin, b" \r\n\t<", Some((Way::Markup, 4))),
+        (Outer::Begin, b"x", Some((Way::Bad, 0))),
+        (Outer::Begin, b"\xef\xbbx", Some((Way::Bad, 2))),
+        (Outer::Opening, b"\xef", Some((Way::Bad, 0))),
+        (
+            Outer::DeclareX,
+            b"ml version='1.0'?>\n<",
+            Some((Way::Markup, 19)),
+        ),
+        (Outer::DeclareX, b"ml version='1.0'?", None),
+        (Outer::DeclareX, b"ml?", Some((Way::Bad, 2))),
+        (Outer::DeclareX, b"mlx", Some((unlike, 2))),
+        (Outer::DeclareX, b"a", Some((unlike, 0))),
+    ];
+    for (from, text, want) in table {
+        assert_eq!(rt; first_way(from, text), want);
+    }
+}
+
+/// What text stands for up to its first markup or reference, or the place of its first bad byte.
+fn text_of(alloc: Global, text: &[u8]) -> Result<Result<Vec<u8>, usize>, Memory> {
+    let mut bytes = Vec::new(alloc);
+    let mut before = Brackets::Zero;
+    let mut returned = false;
+    for (at, byte) in text.iter().enumerate() {
+        let read = if returned {
+            behind_return(*byte)
+        } else {
+            in_text(before, *byte)
+        };
+        returned = read == Read::Return;
+        match read {
+            Read::Bad => return Ok(Err(at)),
+            Read::Markup | Read::Reference => return Ok(Ok(bytes)),
+            Read::Plain { brackets, byte } => {
+                before = brackets;
+                bytes.push(byte)?;
+            }
+            Read::Return => {
+                before = Brackets::Zero;
+                bytes.push(b'\n')?;
+            }
+            Read::Nothing => before = Brackets::Zero,
+        }
+    }
+    Ok(Ok(bytes))
+}
+
+#[test]
+fn text_has_line_feeds_alone_and_no_end_of_a_section(rt: HostRuntime) -> Result<(), Memory> {
+    let alloc = rt.alloc();
+    let table: [(&[u8], &[u8]); 4] = [
+        (b"a\r\nb\rc\r\r\n<", b"a\nb\nc\n\n"),
+        (b"]>]] > ]\r]>&", b"]>]] > ]\n]>"),
+        (b"\xc3\xa9\"'=/:!", b"\xc3\xa9\"'=/:!"),
+        (b"<", b""),
+    ];
+    for (text, want) in table {
+        let Ok(bytes) = text_of(alloc, text)? else {
+            panic!(rt; "text");
+        };
+        assert!(rt; bytes.as_slice() == want);
+    }
+    let bad: [(&[u8], usize); 3] = [(b"a]]>", 3), (b"]]]>", 3), (b"\r]]>", 3)];
+    for (text, want) in bad {
+        match text_of(alloc, text)? {
+            Ok(_) => panic!(rt; "no text"),
+            Err(at) => assert_eq!(rt; at, want),
+        }
+    }
+    Ok(())
 }

@@ -1,4 +1,3 @@
-use Rattle.std.proofs.Common.{◌≡◌}
 use Rattle.dav_xml.specs.Aside.{target_in}
 use Rattle.dav_xml.proofs.AsideLemmas.{no_target}
 use Rattle.dav_xml.proofs.aside.in_target.Goals as goal

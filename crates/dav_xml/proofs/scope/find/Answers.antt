@@ -1,4 +1,3 @@
-use Rattle.std.proofs.Common.{◌≡◌, sym}
 use Rattle.dav_xml.specs.Scope.{bindings_in, scope_in}
 use Rattle.dav_xml.proofs.ScopeLemmas.{front_found, front_missed}
 use Rattle.dav_xml.proofs.scope.find.Goals as goal

@@ -1,4 +1,4 @@
-use Rattle.std.proofs.Common.{◌≡◌, ◌∙◌}
+use Rattle.std.proofs.Common.{◌∙◌}
 use Rattle.dav_xml.proofs.ScopeLemmas.{last_found, last_missed}
 use Rattle.dav_xml.proofs.scope.find_below.Goals as goal
 

@@ -1,4 +1,4 @@
-use Rattle.std.proofs.Common.{◌≡◌, ap, sym, ◌∙◌, refl}
+use Rattle.std.proofs.Common.{ap, sym, ◌∙◌, refl}
 use Rattle.dav_doc.specs.Names.{declares, prefix_of}
 use Rattle.dav_xml.proofs.TagLemmas.{declares_more, uses_more}
 use Rattle.dav_xml.proofs.scope.Tag.add.Goals as goal
