@@ -3,3 +3,4 @@ pub mod ScopeLemmas
 pub mod TagLemmas
 pub mod RunLemmas
 pub mod OuterLemmas
+pub mod EndLemmas

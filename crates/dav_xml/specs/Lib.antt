@@ -9,3 +9,4 @@ pub mod Tag
 pub mod Declaration
 pub mod Run
 pub mod Outer
+pub mod End

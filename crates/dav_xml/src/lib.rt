@@ -6,6 +6,7 @@
 mod aside;
 mod character;
 mod declaration;
+mod end;
 mod kind;
 mod name;
 mod outer;

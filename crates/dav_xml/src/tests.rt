@@ -1,6 +1,7 @@
 use crate::aside::{After, Aside, Target};
 use crate::character::Owed;
 use crate::declaration::Declaration;
+use crate::end::goes_on;
 use crate::kind::{ByteKind, kind_of};
 use crate::name::{Name, Next};
 use crate::outer::{Outer, Way};
@@ -448,4 +449,24 @@ fn text_has_line_feeds_alone_and_no_end_of_a_section(rt: HostRuntime) -> Result<
         }
     }
     Ok(())
+}
+
+#[test]
+fn an_end_tag_is_bad_at_the_first_byte_that_its_element_has_not(rt: HostRuntime) {
+    let table: [(&[u8], &[u8], Option<usize>); 4] = [
+        (b"D:a", b"D:a", None),
+        (b"abc", b"ab>", Some(2)),
+        (b"abc", b"Abc", Some(0)),
+        (b"\xc3\xa9", b"\xc3\xa8", Some(1)),
+    ];
+    for (name, text, want) in table {
+        let mut bad = None;
+        for (at, byte) in text.iter().enumerate() {
+            if at < name.len() && !goes_on(name, at, *byte) {
+                bad = Some(at);
+                break;
+            }
+        }
+        assert_eq!(rt; bad, want);
+    }
 }
