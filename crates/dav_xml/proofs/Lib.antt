@@ -4,3 +4,4 @@ pub mod TagLemmas
 pub mod RunLemmas
 pub mod OuterLemmas
 pub mod EndLemmas
+pub mod MarkupLemmas

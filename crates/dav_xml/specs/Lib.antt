@@ -10,3 +10,5 @@ pub mod Declaration
 pub mod Run
 pub mod Outer
 pub mod End
+pub mod Markup
+pub mod Choice

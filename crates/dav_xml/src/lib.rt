@@ -5,9 +5,11 @@
 
 mod aside;
 mod character;
+mod choice;
 mod declaration;
 mod end;
 mod kind;
+mod markup;
 mod name;
 mod outer;
 mod reference;

@@ -1,8 +1,12 @@
 use crate::aside::{After, Aside, Target};
 use crate::character::Owed;
-use crate::declaration::Declaration;
+use crate::choice::{
+    Closing, InTag, Opening, Sign, Sort, after_equals, before_equals, in_end, in_tag, in_value,
+};
+use crate::declaration::{Declaration, Quote};
 use crate::end::goes_on;
 use crate::kind::{ByteKind, kind_of};
+use crate::markup::{Asked, Begun, Marked, Place, behind_less, behind_mark, behind_question};
 use crate::name::{Name, Next};
 use crate::outer::{Outer, Way};
 use crate::reference::{Reference, Taken};
@@ -469,4 +473,74 @@ fn an_end_tag_is_bad_at_the_first_byte_that_its_element_has_not(rt: HostRuntime)
         }
         assert_eq!(rt; bad, want);
     }
+}
+
+#[test]
+fn markup_begins_by_its_place(rt: HostRuntime) {
+    let places = [Place::First, Place::Before, Place::Inside, Place::Behind];
+    let table: [(u8, [Begun; 4]); 5] = [
+        (
+            b'a',
+            [
+                Begun::Tag(b'a'),
+                Begun::Tag(b'a'),
+                Begun::Tag(b'a'),
+                Begun::Bad,
+            ],
+        ),
+        (b'/', [Begun::Bad, Begun::Bad, Begun::EndTag, Begun::Bad]),
+        (b'!', [Begun::Mark, Begun::Mark, Begun::Mark, Begun::Mark]),
+        (
+            b'?',
+            [
+                Begun::Question,
+                Begun::Question,
+                Begun::Question,
+                Begun::Question,
+            ],
+        ),
+        (b' ', [Begun::Bad, Begun::Bad, Begun::Bad, Begun::Bad]),
+    ];
+    for (byte, wants) in table {
+        for (place, want) in places.iter().zip(wants.iter()) {
+            assert_eq!(rt; behind_less(*place, byte), *want);
+        }
+    }
+    assert_eq!(rt; behind_mark(Place::First, b'-'), Marked::Comment);
+    assert_eq!(rt; behind_mark(Place::First, b'D'), Marked::Bad);
+    assert_eq!(rt; behind_mark(Place::First, b'['), Marked::Bad);
+    assert_eq!(rt; behind_mark(Place::Inside, b'['), Marked::Section);
+    assert_eq!(rt; behind_question(Place::First, b'x'), Asked::Declaration);
+    assert_eq!(rt;
+        behind_question(Place::Inside, b'x'),
+        Asked::Instruction(Target::X)
+    );
+    assert_eq!(rt;
+        behind_question(Place::Behind, b'y'),
+        Asked::Instruction(Target::Unlike)
+    );
+    assert_eq!(rt; behind_question(Place::Behind, b' '), Asked::Bad);
+}
+
+#[test]
+fn tags_go_on_with_blanks_signs_quotes_and_their_end(rt: HostRuntime) {
+    assert_eq!(rt; in_tag(false, b'a'), InTag::Bad);
+    assert_eq!(rt; in_tag(true, b'a'), InTag::Attribute);
+    assert_eq!(rt; in_tag(true, b'1'), InTag::Bad);
+    assert_eq!(rt; in_tag(false, b'\n'), InTag::Blank);
+    assert_eq!(rt; in_tag(true, b'>'), InTag::Close);
+    assert_eq!(rt; in_tag(false, b'/'), InTag::Slash);
+    assert_eq!(rt; before_equals(b'='), Sign::Equals);
+    assert_eq!(rt; before_equals(b'\t'), Sign::Blank);
+    assert_eq!(rt; before_equals(b'"'), Sign::Bad);
+    assert_eq!(rt; after_equals(b'\''), Opening::Value(Quote::Single));
+    assert_eq!(rt; after_equals(b' '), Opening::Blank);
+    assert_eq!(rt; after_equals(b'a'), Opening::Bad);
+    assert_eq!(rt; in_value(Quote::Double, b'"'), Sort::Ends);
+    assert_eq!(rt; in_value(Quote::Double, b'\''), Sort::Stays);
+    assert_eq!(rt; in_value(Quote::Single, b'&'), Sort::Refers);
+    assert_eq!(rt; in_value(Quote::Single, b'<'), Sort::Wrong);
+    assert_eq!(rt; in_end(b'>'), Closing::Close);
+    assert_eq!(rt; in_end(b'\r'), Closing::Blank);
+    assert_eq!(rt; in_end(b'a'), Closing::Bad);
 }
