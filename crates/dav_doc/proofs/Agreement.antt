@@ -5,7 +5,7 @@ use Rattle.dav_doc.specs.Machine.{Begin, Text, Zero, Ran, gives, run}
 use Rattle.dav_doc.proofs.TagSounding.{taken_whole, follows}
 use Rattle.dav_doc.proofs.Runs.{run-append, on_ran}
 use Rattle.dav_doc.proofs.Completing.{complete}
-use Rattle.dav_doc.proofs.Living.{lives}
+use Rattle.dav_doc.proofs.Living.{Lives, lives}
 use Rattle.std.proofs.Common.{inl, inr}
 use Rattle.std.specs.Prelude.{◌⊎◌}
 use Rattle.dav_doc.specs.Characters.{Whole, owed_by}
@@ -24,7 +24,7 @@ bad s h t tree is =
 
 pub alive : (s : List ℕ) (r : Ran) → run s Begin ≡ Some r → (t : List ℕ) × (tree : Forest) × Spells tree (s ++ t)
 alive s r h =
-    let l = lives r.state (follows s Begin r tt h).sound in
+    let l : Lives ⊥ r.state = lives r.state (follows s Begin r tt h).sound (λ k. absurd k) in
     let g : run (s ++ l.text) Begin ≡ Some (record { state = Text [] Zero; events = r.events ++ l.events }) =
     run-append s l.text Begin ∙ ap (λ x. on_ran x l.text) h ∙ ap (gives r.events) l.goes in
     let w = sound (s ++ l.text) (r.events ++ l.events) g in
