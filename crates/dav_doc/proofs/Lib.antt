@@ -11,4 +11,6 @@ pub mod Reading
 pub mod Whole
 pub mod ReferenceBytes
 pub mod Living
+pub mod Keeping
+pub mod Finishing
 pub mod Agreement

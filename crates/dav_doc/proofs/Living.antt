@@ -556,7 +556,7 @@ begin_completes b r true e h =
     let k = finishes r h in
     subst (λ (z : ℕ). Completes (z ∷ r)) (sym (eqb-true b 35 e)) (record { first = k.first; rest = k.rest; value = k.means; steps = number_steps r k.first k.rest k.means k.is })
 
-stand_completes : (r : List ℕ) → may_stand r ≡ true → Completes r
+pub stand_completes : (r : List ℕ) → may_stand r ≡ true → Completes r
 stand_completes [] h = cc
 stand_completes (b ∷ r) h = begin_completes b r (b == 35) refl h
 

@@ -1,16 +1,15 @@
 -- Names of whole characters, and the names that a state of the machine keeps.
-use Rattle.std.proofs.Common.{◌≡◌, ℕ, ◌<◌, Bool, true, false, ◌&&◌, List, [], ◌∷◌, ◌++◌, refl, ap, sym, ◌∙◌, arith, subst, Option, Some, None}
+use Rattle.std.proofs.Common.{◌≡◌, ℕ, ◌<◌, Bool, true, false, ◌&&◌, List, [], ◌∷◌, ◌++◌, refl, ap, sym, ◌∙◌, arith, Option, Some, None}
 use Rattle.std.specs.Prelude.{◌==◌, nat_le, cond}
 use Rattle.std.specs.List.{list_all}
 use Rattle.std.proofs.lemmas.Bool.Decides.{nat_tests}
-use Rattle.std.proofs.lemmas.Bool.{eqb-true, le-leb, leb-true, leb-false}
-use Rattle.dav_doc.specs.Bytes.{Kind, Letter, kind}
+use Rattle.std.proofs.lemmas.Bool.{leb-false}
 use Rattle.dav_doc.specs.Characters.{Owed, Whole, Owes, Special, within, is_ascii, lead, owed, owed_after, on_owed, owed_by}
-use Rattle.dav_doc.specs.Names.{Name, written, Attribute, Binding}
+use Rattle.dav_doc.specs.Names.{Name, written, Attribute}
 use Rattle.dav_doc.specs.Document.{Tag}
 use Rattle.dav_doc.specs.Words.{Want, Done, One_of, Space, Spaces, Either}
 use Rattle.dav_doc.specs.Machine.{Open, Place, First, Before, Below, State, Begin, MarkSecond, MarkThird, Return, Opening, DeclareX, DeclareXm, DeclareXml, Declaring, Question, InTarget, TargetEnd, InInstruction, InstructionEnd, SectionWord, InSection, Outside, Text, Markup, Mark, OpenComment, InComment, CommentDash, CommentClose, InReference, InName, InTag, EmptyTag, AtName, BeforeEquals, AfterEquals, InValue, ValueReference, InEnd, EndBlanks}
-use Rattle.dav_doc.proofs.KindFacts.{and_both, and_of}
+use Rattle.dav_doc.proofs.KindFacts.{and_both}
 use Rattle.dav_doc.proofs.Reading.{owed-append, Fair, fair_run, is_wide}
 
 -- the text is of characters, none of them cut

@@ -45,14 +45,17 @@ pub fn characters_go_on()
     ensures alive { (s : List ℕ) (o : Owed) → owed_by s Whole ≡ Some o → (t : List ℕ) × Characters (s ++ t) }
 {}
 
-/// The two machines side by side: they take whole just the documents, with their events; and where a byte is bad to either, no
-/// continuation is a document.
+/// The two machines side by side: they take whole just the documents, with their events. Where a byte is bad to either, no
+/// continuation is a document; where none is bad to either, some continuation is. So the first byte that is bad to one of them is
+/// the last byte of the shortest prefix that no continuation makes a document.
 pub fn documents()
     ensures sound { (s : List ℕ) (e : List Event) → owed_by s Whole ≡ Some Whole → run s Begin ≡ Some (record { state = Text [] Zero; events = e })
         → (tree : Forest) × IsDocument tree s × (e ≡ events 1 tree) }
     ensures complete { (tree : Forest) (s : List ℕ) → IsDocument tree s
         → (owed_by s Whole ≡ Some Whole) × (run s Begin ≡ Some (record { state = Text [] Zero; events = events 1 tree })) }
     ensures bad { (s : List ℕ) → (owed_by s Whole ≡ None) ⊎ (run s Begin ≡ None) → (t : List ℕ) (tree : Forest) → IsDocument tree (s ++ t) → ⊥ }
+    ensures alive { (s : List ℕ) (r : Ran) (o : Owed) → run s Begin ≡ Some r → owed_by s Whole ≡ Some o
+        → (t : List ℕ) × (tree : Forest) × IsDocument tree (s ++ t) }
 {}
 
 /// Small documents and their events.
