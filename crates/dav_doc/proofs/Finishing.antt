@@ -2,7 +2,7 @@
 use Rattle.std.proofs.Common.{◌≡◌, ℕ, true, false, List, [], ◌∷◌, ◌++◌, refl, ap, ◌∙◌, append-nil, Some}
 use Rattle.std.specs.Prelude.{◌==◌}
 use Rattle.std.specs.List.{list_all}
-use Rattle.dav_doc.specs.Bytes.{Letter, Quote, Double, Single, Stays, sort}
+use Rattle.dav_doc.specs.Bytes.{Letter, sort}
 use Rattle.dav_doc.specs.Characters.{Owed, Whole, owed_by}
 use Rattle.dav_doc.specs.Names.{written, Byte}
 use Rattle.dav_doc.specs.Document.{Event, Char, target_next}
@@ -13,7 +13,7 @@ use Rattle.dav_doc.proofs.Runs.{Goes, goes_cons, goes_by}
 use Rattle.dav_doc.proofs.Completing.{left_goes}
 use Rattle.dav_doc.proofs.Reading.{Fair, fair_whole, is_wide}
 use Rattle.dav_doc.proofs.Whole.{rest_whole, Kept}
-use Rattle.dav_doc.proofs.Keeping.{wide_not, wide_letter}
+use Rattle.dav_doc.proofs.Keeping.{wide_not, wide_letter, letter_stays}
 
 -- a state in which each byte past ASCII is taken, and leads to such a state
 abbrev pub Takes : State → Type 0
@@ -42,10 +42,6 @@ section_letter : (x : Open) (os : List Open) (n : Brackets) (b : ℕ) → sectio
 section_letter x os Zero b = refl
 section_letter x os One b = refl
 section_letter x os Two b = refl
-
-letter_stays : (q : Quote) → sort q Letter ≡ Stays
-letter_stays Double = refl
-letter_stays Single = refl
 
 taken : (st : State) (b : ℕ) → Takes st → is_wide b ≡ true → Taken st b
 taken (Text (x ∷ os) n) b h w = record {

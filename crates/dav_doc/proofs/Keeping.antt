@@ -328,7 +328,7 @@ quote_kept o n os t v m x y b DoubleQuote w i q = (w, i)
 quote_kept o n os t v m x y b SingleQuote w i q = (w, i)
 quote_kept o n os t v m x y b k w i q = tt
 
-letter_stays : (q : Quote) → sort q Letter ≡ Stays
+pub letter_stays : (q : Quote) → sort q Letter ≡ Stays
 letter_stays Double = refl
 letter_stays Single = refl
 

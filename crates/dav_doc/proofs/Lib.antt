@@ -13,4 +13,5 @@ pub mod ReferenceBytes
 pub mod Living
 pub mod Keeping
 pub mod Finishing
+pub mod OneTree
 pub mod Agreement

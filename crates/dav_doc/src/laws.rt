@@ -16,6 +16,11 @@ pub fn complete()
     ensures { (tree : Forest) (s : List ℕ) → Spells tree s → run s Begin ≡ Some (record { state = Text [] Zero; events = events 1 tree }) }
 {}
 
+/// A text spells at most one tree.
+pub fn one_tree()
+    ensures { (s : List ℕ) (a b : Forest) → Spells a s → Spells b s → a ≡ b }
+{}
+
 /// Where a byte of the text is bad to the machine, no continuation of the text up to and with that byte spells a document.
 pub fn bad()
     ensures { (s : List ℕ) → run s Begin ≡ None → (t : List ℕ) (tree : Forest) → Spells tree (s ++ t) → ⊥ }

@@ -10,6 +10,6 @@
 mod laws;
 
 pub use laws::{
-    alive, bad, bad_places, characters, characters_go_on, complete, documents, examples, so_far,
-    sound,
+    alive, bad, bad_places, characters, characters_go_on, complete, documents, examples, one_tree,
+    so_far, sound,
 };
