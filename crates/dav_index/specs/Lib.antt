@@ -1,0 +1,16 @@
+pub mod Records
+pub mod Faults
+pub mod Item
+pub mod Items
+pub mod HeldView
+pub mod EntriesView
+pub mod LostView
+pub mod Tables
+pub mod Bounds
+pub mod Queries
+pub mod Left
+pub mod Reading
+pub mod Flawed
+pub mod Places
+pub mod Ready
+pub mod Tests
