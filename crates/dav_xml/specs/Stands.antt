@@ -58,9 +58,9 @@ pub record InReference (r : Reference) (os : List machine.Open) (st : State) : T
   pub is : st ≡ machine.InReference inside.element inside.around text
 
 -- in the name of an end tag
-pub record InEndName (name : List ℕ) (came : ℕ) (os : List machine.Open) (st : State) : Type 0 where
+pub record InEndName (letters : List ℕ) (came : ℕ) (os : List machine.Open) (st : State) : Type 0 where
   pub inside : Inside os
-  pub name : name ≡ written inside.element.name
+  pub name : letters ≡ written inside.element.name
   pub is : st ≡ end_at inside.element inside.around came
 
 -- behind it
@@ -74,11 +74,11 @@ are_some [] = false
 are_some (b ∷ s) = true
 
 -- behind the name of a tag or an attribute, and blanks
-pub record IsBetween (tag : Tag) (some : Bool) (os : List machine.Open) (st : State) : Type 0 where
+pub record IsBetween (tag : Tag) (any : Bool) (os : List machine.Open) (st : State) : Type 0 where
   pub t : document.Tag
   pub blanks : List ℕ
   pub fits : Fits tag t
-  pub some : are_some blanks ≡ some
+  pub some : are_some blanks ≡ any
   pub is : st ≡ machine.InTag os t blanks
 
 -- behind the slash of an empty tag

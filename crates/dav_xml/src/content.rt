@@ -1,4 +1,4 @@
-ghost use Rattle.std.specs.Prelude.{◌≡◌, IfOk, List, ℕ};
+ghost use Rattle.std.specs.Prelude.{◌≡◌, [], IfOk, List, ℕ};
 ghost use Rattle.dav_doc.specs.Machine as machine;
 ghost use Rattle.dav_markup.specs.Run.{read_in};
 ghost use Rattle.dav_xml.specs.Stands.{stack_of, Inside};

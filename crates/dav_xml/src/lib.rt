@@ -17,6 +17,9 @@ mod start_tag;
 mod step;
 mod turn;
 
+#[cfg(test)]
+mod tests;
+
 pub use event::Event;
 pub use fault::XmlFault;
 pub use scan::{Fed, Scan};

@@ -11,7 +11,7 @@ use crate::fault::XmlFault;
 use crate::limit::limit_of;
 use crate::position::Position;
 use crate::step::Step;
-use crate::turn::{Turn, size_at, turn};
+use crate::turn::{Turn, size_at, take_step};
 use dav_markup::character::Owed;
 use dav_markup::outer::Outer;
 use dav_markup::scope::Open;
@@ -98,7 +98,7 @@ impl Scan {
         if let Some(which) = limit_of(&step, self.depth, self.size) {
             return Err(XmlFault::Limit { which });
         }
-        let Ok(turn) = turn(self.alloc, &mut self.opens, self.depth, step) else {
+        let Ok(turn) = take_step(self.alloc, &mut self.opens, self.depth, step) else {
             return Err(XmlFault::Memory);
         };
         let Turn {

@@ -71,7 +71,7 @@ fn close(opens: &mut Vec<Open>, depth: u32) -> Turn
 }
 
 /// Takes a step below these open elements.
-pub(crate) fn turn(
+pub(crate) fn take_step(
     alloc: Global,
     opens: &mut Vec<Open>,
     depth: u32,

@@ -1,0 +1,4 @@
+pub mod StackLemmas
+pub mod ReadLemmas
+pub mod TakeLemmas
+pub mod OverLemmas

@@ -1,0 +1,145 @@
+use crate::{Event, Scan, XmlFault};
+use dav_text::{Memory, Which, decimal};
+use std::alloc::Global;
+
+/// One event more.
+fn tell(told: &mut Vec<u8>, event: Event<'_>) -> Result<(), Memory> {
+    match event {
+        Event::Start { depth, ns, name } => {
+            told.push(b'<')?;
+            decimal(u64::from(depth), told)?;
+            told.extend_from_slice(b" {".as_slice())?;
+            told.extend_from_slice(ns)?;
+            told.push(b'}')?;
+            told.extend_from_slice(name)?;
+            told.push(b'>')?;
+        }
+        Event::Chars { bytes } => told.extend_from_slice(bytes)?,
+        Event::End { depth } => {
+            told.extend_from_slice(b"</".as_slice())?;
+            decimal(u64::from(depth), told)?;
+            told.push(b'>')?;
+        }
+    }
+    Ok(())
+}
+
+/// Feeds a whole piece, and tells its events.
+fn feed_all(
+    scan: &mut Scan,
+    piece: &[u8],
+    told: &mut Vec<u8>,
+) -> Result<Option<XmlFault>, Memory> {
+    let mut used = 0;
+    for _ in 0..2 * piece.len() + 1 {
+        let fed = match scan.feed(&piece[used..]) {
+            Ok(fed) => fed,
+            Err(fault) => return Ok(Some(fault)),
+        };
+        if !fed.ready {
+            return Ok(None);
+        }
+        tell(told, scan.event())?;
+        used += fed.used;
+    }
+    Ok(None)
+}
+
+/// The events of a text that comes in two pieces, and its fault.
+fn read_cut(
+    alloc: Global,
+    text: &[u8],
+    cut: usize,
+) -> Result<(Vec<u8>, Option<XmlFault>), Memory> {
+    let mut scan = Scan::new(alloc)?;
+    let mut told = Vec::new(alloc);
+    for piece in [&text[..cut], &text[cut..]] {
+        let fault = feed_all(&mut scan, piece, &mut told)?;
+        if fault.is_some() {
+            return Ok((told, fault));
+        }
+    }
+    Ok((told, scan.end().err()))
+}
+
+#[test]
+fn a_document_gives_its_events_for_any_cut(rt: HostRuntime) -> Result<(), Memory> {
+    let alloc = rt.alloc();
+    let text = b"\xef\xbb\xbf<?xml version='1.0'?>\n<!-- - --><D:a xmlns:D=\"DAV:\" xmlns='&#x78;'>\xc3\xa9 &lt;\r\n<b c='\"'/>]<![CDATA[<]]]]><?p ?></D:a >\r";
+    let want = b"<1 {DAV:}a>\xc3\xa9 <\n<2 {x}b></2>]<]]</1>";
+    for cut in 0..text.len() + 1 {
+        let (told, fault) = read_cut(alloc, text.as_slice(), cut)?;
+        assert!(rt; told.as_slice() == want.as_slice(), "at {cut}");
+        assert_eq!(rt; fault, None);
+    }
+    Ok(())
+}
+
+#[test]
+fn a_bad_byte_is_told_at_its_place_for_any_cut(rt: HostRuntime) -> Result<(), Memory> {
+    let alloc = rt.alloc();
+    let table: [(&[u8], u64); 55] = [
+        (b"x", 0),
+        (b"<a b='<", 6),
+        (b"<a b='&b", 7),
+        (b"<p:a>", 4),
+        (b"<a p:b=''>", 9),
+        (b"<p:a/", 4),
+        (b"<a xmlns:p=''", 12),
+        (b"<a xmlns:p='x' xmlns:p=''", 24),
+        (b"<abc></ab>", 9),
+        (b"<ab></a>", 7),
+        (b"</", 1),
+        (b"<a/>x", 4),
+        (b"<a/><b", 5),
+        (b"<a></a></", 8),
+        (b"<a>&b", 4),
+        (b"<a>&lx", 5),
+        (b"<a>]]>", 5),
+        (b"<a>]]]>", 6),
+        (b"<a><!-- --x", 10),
+        (b"<a><!-- --->", 10),
+        (b"<!-x", 3),
+        (b"<!x", 2),
+        (b"<![", 2),
+        (b"<a><!x", 5),
+        (b"<a><![x", 6),
+        (b" <?xml ", 6),
+        (b"<a><?XmL?", 8),
+        (b"<?xml?", 5),
+        (b"<?a?b", 4),
+        (b"<?xml version=\"1.2", 17),
+        (b"<?xml version='1.0' encoding=\"x", 30),
+        (b"<a>&#;", 5),
+        (b"<a>&#x;", 6),
+        (b"<a>&#0;", 6),
+        (b"<a>&#1114112;", 11),
+        (b"<a>&#xD800;", 10),
+        (b"<a>&#xFFFE;", 10),
+        (b"<a>\xed\xa0", 4),
+        (b"<a>\xef\xbf\xbe", 5),
+        (b"<a>\xe0\x9f", 4),
+        (b"<a>\xf4\x90", 4),
+        (b"<a>\xc0", 3),
+        (b"<a>\xf5", 3),
+        (b"<a>\x01", 3),
+        (b"<a>\xc3<", 4),
+        (b"<!--\x00", 4),
+        (b"<a b='\x1f", 6),
+        (b"<\xc3\xa9></\xc3\xa8", 7),
+        (b"<a xmlns:=", 9),
+        (b"<a:b:", 4),
+        (b"<a:1", 3),
+        (b"<a b='c'd", 8),
+        (b"\xefx", 1),
+        (b" \xef\xbb\xbf<", 1),
+        (b"<!D", 2),
+    ];
+    for (text, want) in table {
+        for cut in 0..text.len() + 1 {
+            let (_, fault) = read_cut(alloc, text, cut)?;
+            assert_eq!(rt; fault, Some(XmlFault::Bad { at: want }), "{want} at {cut}");
+        }
+    }
+    Ok(())
+}
