@@ -1,4 +1,6 @@
 pub mod StackLemmas
 pub mod ReadLemmas
+pub mod StepLemmas
+pub mod TagStepLemmas
 pub mod TakeLemmas
 pub mod OverLemmas
