@@ -3,4 +3,5 @@ pub mod ReadLemmas
 pub mod StepLemmas
 pub mod TagStepLemmas
 pub mod TakeLemmas
+pub mod TurnLemmas
 pub mod OverLemmas
