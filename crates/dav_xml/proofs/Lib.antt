@@ -5,3 +5,6 @@ pub mod TagStepLemmas
 pub mod TakeLemmas
 pub mod TurnLemmas
 pub mod OverLemmas
+pub mod FeedLemmas
+pub mod ScanLemmas
+pub mod LawLemmas

@@ -9,6 +9,7 @@ mod content;
 mod end_tag;
 mod event;
 mod fault;
+mod laws;
 mod limit;
 mod markup;
 mod position;
@@ -22,4 +23,5 @@ mod tests;
 
 pub use event::Event;
 pub use fault::XmlFault;
+pub use laws::{bad_is_bad, read_goes_on, read_runs};
 pub use scan::{Fed, Scan};
