@@ -1,6 +1,6 @@
 -- One byte taken by the scanner.
-use Rattle.std.proofs.Common.{◌≡◌, ℕ, ◌+◌, ◌<◌, ◌≤◌, Bool, true, false, List, [], ◌∷◌, ◌++◌, length, refl, ap, sym, ◌∙◌, append_assoc, arith, Option, Some, None, inl, inr, length-append}
-use Rattle.std.specs.Prelude.{◌⊎◌, nat_le, cond, option_map, if◌then◌else◌, Ok, Err}
+use Rattle.std.proofs.Common.{◌≡◌, ℕ, ◌+◌, ◌<◌, Bool, true, false, List, [], ◌∷◌, ◌++◌, length, refl, ap, sym, subst, ◌∙◌, arith, Option, Some, None, inl, inr, length-append}
+use Rattle.std.specs.Prelude.{◌⊎◌, nat_le, cond, option_map, if◌then◌else◌, Result, Ok, Err}
 use Rattle.std.proofs.lemmas.Bool.{leb-false}
 use Rattle.dav_doc.specs.Characters.{Owed, owed_after}
 use Rattle.dav_doc.specs.Document.{Event}
@@ -80,7 +80,7 @@ pub takes : (old new : Scan) (text : List ℕ) (given : List Event) (b : ℕ) (o
 takes old new text given b owed s turn h l w k n t z p d e o a f =
     let x = stand_of old text given h in
     let y = taken x text given b old.depth new.size (owed_in owed) s old.opens.items new.opens.items turn (read_now old text given h l) (sym w) h.depth
-        (k h.state h.stands) n t z in
+    (k h.state h.stands) n t z in
     record {
       state = y.state;
       read = rw (o, e) y.read;
@@ -116,3 +116,8 @@ within (Opens tag ns) depth size e =
 within (Empty tag ns) depth size e =
     let k = by_depth (nat_le 33 (depth + 1)) (depth + 1) (attributes_by (Empty tag ns)) size refl e in
     let n : depth < 32 = omega (arith, k.0) in (n, k.1)
+
+-- the same position and the same elements
+pub same_step : (p q : Position) (xs ys : List Open) (at depth size b : ℕ) (r : Result Step XmlFault) → p ≡ q → xs ≡ ys → StepAt p (stack_of xs) at depth size b r → StepAt q (stack_of ys) at depth size b r
+same_step p q xs ys at depth size b r e f h =
+    subst (λ (z : Position). StepAt z (stack_of ys) at depth size b r) e (subst (λ (z : List Open). StepAt p (stack_of z) at depth size b r) f h)

@@ -151,7 +151,7 @@ passes x b depth o s os which h m d l =
     let k = move_of s os x.state b m in
     ap (λ z. judged x z (step x.state b)) h ∙ ap (judged x (Some o)) k.is
     ∙ ap (λ z. goes_by z (record { state = k.new; owed = o; size = size_by x.size k.new }) k.events)
-      (limits_agree s os x.state k.new b depth x.size k.events d m k.is ∙ sym l)
+    (limits_agree s os x.state k.new b depth x.size k.events d m k.is ∙ sym l)
 
 -- where a byte is refused
 pub refuses_character : (x : Stand) (b : ℕ) → owed_after x.owed b ≡ None → next x b ≡ Refused
@@ -184,7 +184,7 @@ taken x text given b depth size o s old opens turn r h d m l t z =
     record {
       state = k.state;
       read = reads_more text b x (record { state = k.state; owed = o; size = size }) given e r (goes_on x b size o k.state e h k.is l y)
-      ∙ ap (λ n. Some (record { stand = record { state = k.state; owed = o; size = size }; events = n })) (sym (append_assoc given (lent_in turn.lent) (later_in turn.lent)));
+          ∙ ap (λ n. Some (record { stand = record { state = k.state; owed = o; size = size }; events = n })) (sym (append_assoc given (lent_in turn.lent) (later_in turn.lent)));
       stands = k.stands;
       depth = k.depth;
     }

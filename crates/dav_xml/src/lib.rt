@@ -16,10 +16,9 @@ mod position;
 mod scan;
 mod start_tag;
 mod step;
-mod turn;
-
 #[cfg(test)]
 mod tests;
+mod turn;
 
 pub use event::Event;
 pub use fault::XmlFault;

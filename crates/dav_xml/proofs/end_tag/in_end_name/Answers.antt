@@ -17,5 +17,5 @@ returns c = λ os st h.
     let o = h.inside.element in
     leads _ os _ st _ (end_at o h.inside.around (c.args.came + 1)) c.args.byte h.is
     (end_goes o h.inside.around c.args.came c.args.byte c.goes_on.result c.if-not-goes_on.false
-      (c.goes_on.ensures o h.inside.around (sym h.name ∙ sym c.as_slice.ensures)))
+    (c.goes_on.ensures o h.inside.around (sym h.name ∙ sym c.as_slice.ensures)))
     (record { inside = h.inside; name = h.name; is = refl })

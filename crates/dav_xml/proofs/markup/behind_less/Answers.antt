@@ -9,7 +9,7 @@ pub returns-in-EndTag : goal.returns-in-EndTag
 returns-in-EndTag c =
     if_ok _ _ c.begin_end.result
     (λ s k st h. k (inside_at c.args.place (stack_of c.args.opens.now) (c.in-EndTag.ensures.inside refl) h.0) st c.args.byte
-      (ap (λ z. machine.step z c.args.byte) h.1 ∙ c.in-EndTag.ensures.begun h.0.element h.0.around))
+    (ap (λ z. machine.step z c.args.byte) h.1 ∙ c.in-EndTag.ensures.begun h.0.element h.0.around))
     c.begin_end.ensures
 
 pub returns-in-Mark : goal.returns-in-Mark

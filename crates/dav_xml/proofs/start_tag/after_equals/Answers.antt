@@ -11,13 +11,13 @@ returns-in-Blank c = λ os st h.
     let w = h.after ++ (c.args.byte ∷ []) in
     let n = name_in c.args.name in
     rw c.further.ensures
-      (leads _ os [] st _ (machine.AfterEquals os h.t h.blanks n h.before w) c.args.byte h.is (c.in-Blank.ensures os h.t h.blanks n h.before h.after)
-        (record { t = h.t; blanks = h.blanks; before = h.before; after = w; fits = h.fits; is = refl }))
+    (leads _ os [] st _ (machine.AfterEquals os h.t h.blanks n h.before w) c.args.byte h.is (c.in-Blank.ensures os h.t h.blanks n h.before h.after)
+    (record { t = h.t; blanks = h.blanks; before = h.before; after = w; fits = h.fits; is = refl }))
 
 pub returns-in-Value : goal.returns-in-Value
 returns-in-Value c = λ os st h.
     let n = name_in c.args.name in
     let a : Attribute = record { lead = h.blanks; name = n; before = h.before; after = h.after; quote = quote_of c.in-Value.quote; parts = [] } in
     rw c.further-in-Value.ensures
-      (leads _ os [] st _ (machine.InValue os h.t a) c.args.byte h.is (c.in-Value.ensures os h.t h.blanks n h.before h.after)
-        (record { t = h.t; attribute = a; value = record { fits = h.fits; name = refl; quote = refl; bytes = c.from_vec.ensures ∙ c.new.ensures.items }; is = refl }))
+    (leads _ os [] st _ (machine.InValue os h.t a) c.args.byte h.is (c.in-Value.ensures os h.t h.blanks n h.before h.after)
+    (record { t = h.t; attribute = a; value = record { fits = h.fits; name = refl; quote = refl; bytes = c.from_vec.ensures ∙ c.new.ensures.items }; is = refl }))

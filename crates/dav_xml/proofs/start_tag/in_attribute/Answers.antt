@@ -14,9 +14,9 @@ returns-in-Longer c = λ os st h.
     let goes = subst (λ (z : Next). GoesBy c.args.name c.args.byte k z) c.in-Longer.is c.in_ok-name.ensures in
     let m = name_in c.in-Longer.name in
     rw c.further.ensures
-      (leads _ os [] st _ (machine.AtName os h.t h.blanks m) c.args.byte h.is
-        (attribute_longer os h.t h.blanks (name_in c.args.name) m c.args.byte k c.kind_of.ensures goes)
-        (record { t = h.t; blanks = h.blanks; fits = h.fits; is = refl }))
+    (leads _ os [] st _ (machine.AtName os h.t h.blanks m) c.args.byte h.is
+    (attribute_longer os h.t h.blanks (name_in c.args.name) m c.args.byte k c.kind_of.ensures goes)
+    (record { t = h.t; blanks = h.blanks; fits = h.fits; is = refl }))
 
 pub returns-else-not-is_whole : goal.returns-else-not-is_whole
 returns-else-not-is_whole c = λ os st h.
@@ -27,6 +27,6 @@ returns-else-not-is_whole c = λ os st h.
     moves_as c.before_equals.result os st old c.args.byte
     (ap (λ z. machine.step z c.args.byte) (h.is ∙ ap (λ z. machine.AtName os h.t h.blanks (name_in z)) (sym ends.1))
     ∙ attribute_ended os h.t h.blanks n c.args.byte k true c.kind_of.ensures
-      (ap (λ z. machine.name_next (name_in z) c.args.byte k) ends.1 ∙ ends.0) (sym c.is_whole.ensures ∙ c.if-not-is_whole.false))
+    (ap (λ z. machine.name_next (name_in z) c.args.byte k) ends.1 ∙ ends.0) (sym c.is_whole.ensures ∙ c.if-not-is_whole.false))
     (ap attributes_of h.is)
     (c.before_equals.ensures os old (record { t = h.t; blanks = h.blanks; before = []; fits = h.fits; is = refl }))

@@ -18,9 +18,9 @@ returns-else-not-is_whole c =
     let t : document.Tag = record { name = name_in c.in-Ended.name; attributes = [] } in
     if_ok _ _ c.between.result
     (λ s m st h. moves_as s os st (machine.InTag os t []) c.args.byte
-      (ap (λ z. machine.step z c.args.byte) (h ∙ ap (λ n. machine.InName os (name_in n)) (sym ends.1))
-      ∙ name_ended os (name_in c.in-Ended.name) c.args.byte k true c.kind_of.ensures
-        (ap (λ n. machine.name_next (name_in n) c.args.byte k) ends.1 ∙ ends.0) (sym c.is_whole.ensures ∙ c.if-not-is_whole.false))
-      (ap attributes_of h)
-      (m (machine.InTag os t []) (record { t = t; blanks = []; fits = c.new.ensures; some = refl; is = refl })))
+    (ap (λ z. machine.step z c.args.byte) (h ∙ ap (λ n. machine.InName os (name_in n)) (sym ends.1))
+    ∙ name_ended os (name_in c.in-Ended.name) c.args.byte k true c.kind_of.ensures
+    (ap (λ n. machine.name_next (name_in n) c.args.byte k) ends.1 ∙ ends.0) (sym c.is_whole.ensures ∙ c.if-not-is_whole.false))
+    (ap attributes_of h)
+    (m (machine.InTag os t []) (record { t = t; blanks = []; fits = c.new.ensures; some = refl; is = refl })))
     c.between.ensures
