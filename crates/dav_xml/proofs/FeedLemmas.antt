@@ -1,5 +1,5 @@
 -- A piece taken byte by byte.
-use Rattle.std.proofs.Common.{◌≡◌, ℕ, ◌+◌, ◌<◌, ◌≤◌, Bool, true, false, List, [], ◌∷◌, ◌++◌, length, take, drop, get_or, refl, ap, sym, ◌∙◌, subst, append_assoc, add-one, add-zero, add_assoc, arith, Option, Some, None, inl, inr}
+use Rattle.std.proofs.Common.{◌≡◌, ℕ, ◌+◌, ◌<◌, ◌≤◌, Bool, true, false, List, [], ◌∷◌, ◌++◌, length, take, drop, get_or, refl, ap, sym, ◌∙◌, subst, append_assoc, add-one, add-zero, add_assoc, arith, Some, None, inl, inr}
 use Rattle.std.specs.Prelude.{◌⊎◌, ◌&&◌, ◌==◌}
 use Rattle.std.proofs.lemmas.List.{append-nil, take_more, take_all, take-append-drop}
 use Rattle.std.proofs.Math.Seq.{drop-cons}
@@ -8,7 +8,7 @@ use Rattle.dav_doc.specs.Characters.{Whole, owed_by}
 use Rattle.dav_doc.specs.Document.{Event, Forest, IsDocument, events}
 use Rattle.dav_doc.specs.Machine as machine
 use Rattle.dav_doc.specs.Machine.{run, Ran, Begin, State}
-use Rattle.dav_doc.proofs.Agreement.{whole_sound, whole_complete, whole_bad}
+use Rattle.dav_doc.proofs.Agreement.{whole_sound, whole_complete}
 use Rattle.dav_markup.specs.Owing.{owed_in}
 use Rattle.dav_xml.specs.declared.fault.XmlFault.{XmlFault}
 use Rattle.dav_xml.specs.declared.fault.XmlFault.TheVariants as faults
@@ -26,7 +26,7 @@ use Rattle.dav_xml.proofs.OverLemmas.{outside_over, over_outside, nothing_owed}
 use Rattle.dav_xml.specs.Events.{lent_in, later_in, is_ready}
 use Rattle.dav_xml.specs.Read.{HasRead, Feeds, Fails, Stops}
 use Rattle.dav_xml.specs.declared.scan.Fed.{Fed}
-use Rattle.dav_xml.specs.Reading.{Stand, Reading, begin, reads}
+use Rattle.dav_xml.specs.Reading.{begin}
 use Rattle.dav_xml.proofs.ReadLemmas.{reads_run}
 
 -- what a scanner has read, where only what it lends has changed

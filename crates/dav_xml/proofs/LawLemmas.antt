@@ -1,5 +1,5 @@
 -- What a scanner has read, as documents.
-use Rattle.std.proofs.Common.{◌≡◌, ℕ, List, [], ◌∷◌, ◌++◌, refl, ap, sym, ◌∙◌, append_assoc, Option, Some, None, inl, inr}
+use Rattle.std.proofs.Common.{◌≡◌, ℕ, List, [], ◌∷◌, ◌++◌, ap, ◌∙◌, append_assoc, Some, None, inl, inr}
 use Rattle.std.specs.Prelude.{◌⊎◌}
 use Rattle.dav_doc.specs.Characters.{Owed, Whole, owed_by, owed_after, on_owed}
 use Rattle.dav_doc.specs.Document.{Event, Forest, IsDocument, events}
@@ -12,7 +12,7 @@ use Rattle.dav_xml.specs.declared.fault.XmlFault.TheVariants as faults
 use Rattle.dav_xml.specs.declared.scan.Scan.{Scan}
 use Rattle.dav_xml.specs.Events.{later_in}
 use Rattle.dav_xml.specs.Read.{HasRead, Fails}
-use Rattle.dav_xml.specs.Reading.{Stand, begin, reads}
+use Rattle.dav_xml.specs.Reading.{begin}
 use Rattle.dav_xml.proofs.ReadLemmas.{reads_run, refused}
 
 pub read_run : (scan : Scan) (text : List ℕ) (given : List Event) → HasRead scan text given

@@ -1,9 +1,8 @@
 -- Where a document is over.
-use Rattle.std.proofs.Common.{◌≡◌, ℕ, Bool, true, false, List, [], ◌∷◌, ◌++◌, refl, ap, sym, ◌∙◌, take, drop}
+use Rattle.std.proofs.Common.{◌≡◌, ℕ, Bool, true, false, List, [], ◌∷◌, refl, ap, sym, ◌∙◌}
 use Rattle.dav_doc.specs.Characters as characters
 use Rattle.dav_doc.specs.Machine as machine
 use Rattle.dav_doc.specs.Machine.{State, Text, end_next}
-use Rattle.dav_doc.specs.Names.{written}
 use Rattle.dav_markup.specs.Aside.{aside_in}
 use Rattle.dav_markup.specs.Markup.{place_in}
 use Rattle.dav_markup.specs.Outer.{outer_in}

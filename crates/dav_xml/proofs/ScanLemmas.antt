@@ -1,10 +1,9 @@
 -- One byte taken by the scanner.
-use Rattle.std.proofs.Common.{◌≡◌, ℕ, ◌+◌, ◌<◌, Bool, true, false, List, [], ◌∷◌, ◌++◌, length, refl, ap, sym, subst, ◌∙◌, arith, Option, Some, None, inl, inr, length-append}
-use Rattle.std.specs.Prelude.{◌⊎◌, nat_le, cond, option_map, if◌then◌else◌, Result, Ok, Err}
+use Rattle.std.proofs.Common.{◌≡◌, ℕ, ◌+◌, ◌<◌, Bool, true, false, List, [], ◌∷◌, ◌++◌, refl, ap, sym, subst, ◌∙◌, arith, Some, None, inl, inr, length-append}
+use Rattle.std.specs.Prelude.{◌⊎◌, nat_le, cond, if◌then◌else◌, Result, Err}
 use Rattle.std.proofs.lemmas.Bool.{leb-false}
 use Rattle.dav_doc.specs.Characters.{Owed, owed_after}
 use Rattle.dav_doc.specs.Document.{Event}
-use Rattle.dav_doc.specs.Machine as machine
 use Rattle.dav_markup.specs.Owing.{owed_in}
 use Rattle.dav_markup.specs.declared.character.Owed.{Owed as CodeOwed}
 use Rattle.dav_markup.specs.declared.scope.Open.{Open}

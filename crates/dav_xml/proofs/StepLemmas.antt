@@ -1,5 +1,5 @@
 -- Steps of the code as moves of the machine.
-use Rattle.std.proofs.Common.{◌≡◌, ℕ, Bool, true, false, List, [], ◌∷◌, ◌++◌, refl, ap, sym, ◌∙◌, append_assoc, ◌+◌, ◌≤◌, length, take, drop, Option, Some, None}
+use Rattle.std.proofs.Common.{◌≡◌, ℕ, Bool, true, false, List, [], ◌∷◌, ◌++◌, refl, ap, sym, ◌∙◌, append_assoc, ◌+◌, ◌≤◌, length, take, None}
 use Rattle.std.specs.Prelude.{◌==◌, Result, Ok, Err, IfOk}
 use Rattle.std.proofs.lemmas.List.{drop_all}
 use Rattle.dav_doc.specs.Document.{Event}

@@ -1,5 +1,5 @@
 -- Steps in start tags.
-use Rattle.std.proofs.Common.{◌≡◌, ℕ, Bool, true, false, List, [], ◌∷◌, ◌++◌, refl, ap, sym, ◌∙◌, append_assoc, length, Option, Some, None}
+use Rattle.std.proofs.Common.{◌≡◌, ℕ, Bool, true, false, List, [], ◌∷◌, ◌++◌, refl, ap, sym, ◌∙◌, append_assoc, Option, Some, None}
 use Rattle.std.specs.Prelude.{not}
 use Rattle.std.proofs.lemmas.List.{append-nil}
 use Rattle.dav_doc.specs.Bytes as bytes
@@ -10,9 +10,7 @@ use Rattle.dav_doc.specs.Machine as machine
 use Rattle.dav_doc.specs.Machine.{State, Move, To, step, on, name_next, name_step, attribute_step, value_step, value_reference_step, with_part}
 use Rattle.dav_doc.specs.Names as names
 use Rattle.dav_doc.specs.Names.{Attribute, Part, Byte, Reference, part_value, parts_value, value_of, is_name, is_fine, undeclares}
-use Rattle.dav_doc.specs.References.{utf_8, stands_for, may_stand}
 use Rattle.dav_markup.specs.Choice.{in_tag_by}
-use Rattle.dav_markup.specs.Name.{name_in}
 use Rattle.dav_markup.specs.Reference.{GoesOn, IsWrong, means}
 use Rattle.dav_markup.specs.declared.choice.InTag.{InTag}
 use Rattle.dav_markup.specs.declared.reference.Reference.{Reference as CodeReference}

@@ -1,11 +1,11 @@
 -- A byte taken by the code.
-use Rattle.std.proofs.Common.{◌≡◌, ℕ, ◌+◌, Bool, true, false, List, [], ◌∷◌, ◌++◌, length, refl, ap, sym, ◌∙◌, append_assoc, Option, Some, None}
+use Rattle.std.proofs.Common.{◌≡◌, ℕ, ◌+◌, true, false, List, [], ◌∷◌, ◌++◌, length, refl, ap, sym, ◌∙◌, append_assoc, Some, None}
 use Rattle.std.specs.Prelude.{if◌then◌else◌}
 use Rattle.dav_doc.specs.Characters.{Owed, owed_after}
 use Rattle.dav_doc.specs.Document.{Event, Start, End}
 use Rattle.dav_doc.specs.Machine as machine
 use Rattle.dav_doc.specs.Machine.{State, Move, To, step, chars, end_next}
-use Rattle.dav_doc.specs.Names.{written, local_of}
+use Rattle.dav_doc.specs.Names.{local_of}
 use Rattle.dav_markup.specs.Aside.{aside_in}
 use Rattle.dav_markup.specs.Few.{few_in}
 use Rattle.dav_markup.specs.Markup.{place_in}
@@ -25,7 +25,7 @@ use Rattle.dav_xml.specs.declared.position.StartTag.TheVariants as starts
 use Rattle.dav_xml.specs.declared.step.Step.{Step}
 use Rattle.dav_xml.specs.declared.step.Step.TheVariants.{Further, Text, Opens, Empty, Closes}
 use Rattle.dav_xml.specs.Moves.{Moves}
-use Rattle.dav_xml.specs.Reading.{is_tag, attributes_of, begins, limit_by, tag_limit, Stand, begin, Refused, Passes, Goes, size_by, goes_by, judged, next, reads}
+use Rattle.dav_xml.specs.Reading.{is_tag, attributes_of, begins, limit_by, Stand, begin, Refused, Passes, Goes, size_by, goes_by, judged, next, reads}
 use Rattle.dav_xml.specs.Events.{lent_in, later_in}
 use Rattle.dav_xml.specs.Stands.{Stands, StartsAt, stack_of}
 use Rattle.dav_xml.specs.Turn.{begun_by, attributes_by, is_tag_at, Turns}

@@ -1,7 +1,7 @@
 -- A step of the code taken.
-use Rattle.std.proofs.Common.{◌≡◌, ℕ, ◌+◌, ◌-◌, ◌<◌, Bool, true, false, List, [], ◌∷◌, ◌++◌, length, refl, ap, sym, ◌∙◌, arith, Option, Some, None}
+use Rattle.std.proofs.Common.{◌≡◌, ℕ, ◌+◌, ◌<◌, true, false, List, [], ◌∷◌, ◌++◌, length, ap, sym, ◌∙◌, arith, Option, Some, None}
 use Rattle.std.specs.Prelude.{option_to_list, IsSome}
-use Rattle.dav_doc.specs.Document.{Event, Start, End}
+use Rattle.dav_doc.specs.Document.{Start, End}
 use Rattle.dav_doc.specs.Machine as machine
 use Rattle.dav_doc.specs.Machine.{State, To, step, scope_of}
 use Rattle.dav_doc.specs.Names.{local_of, declared}

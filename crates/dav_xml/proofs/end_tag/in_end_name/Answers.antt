@@ -1,5 +1,4 @@
 use Rattle.std.proofs.Common.{[], ◌≡◌, ◌≤◌, ◌+◌, length, refl, ap, sym, ◌∙◌, arith}
-use Rattle.dav_doc.specs.Machine as machine
 use Rattle.dav_doc.specs.Names.{written}
 use Rattle.dav_markup.specs.End.{end_at}
 use Rattle.dav_xml.proofs.StepLemmas.{leads, end_over, end_goes}

@@ -1,4 +1,4 @@
-use Rattle.std.proofs.Common.{[], ◌∷◌, ◌++◌, refl, ap, ◌∙◌, true}
+use Rattle.std.proofs.Common.{[], ◌∷◌, ◌++◌, refl, ap, ◌∙◌}
 use Rattle.dav_doc.specs.Machine as machine
 use Rattle.dav_doc.specs.Names.{Plain}
 use Rattle.dav_markup.specs.declared.choice.InTag.TheVariants.{Blank, Slash, Attribute}

@@ -1,4 +1,4 @@
-use Rattle.std.proofs.Common.{[], ◌∷◌, ◌++◌, refl, subst, ap, ◌∙◌}
+use Rattle.std.proofs.Common.{[], ◌∷◌, ◌++◌, refl, subst, ◌∙◌}
 use Rattle.dav_doc.specs.Machine as machine
 use Rattle.dav_doc.specs.Machine.{with_part}
 use Rattle.dav_doc.specs.Names.{Reference}

@@ -1,6 +1,5 @@
-use Rattle.std.proofs.Common.{◌≡◌, ◌-◌, length, refl, ap, sym, ◌∙◌, arith}
+use Rattle.std.proofs.Common.{◌≡◌, length, ap, sym, arith}
 use Rattle.dav_doc.specs.Machine as machine
-use Rattle.dav_xml.specs.Stands.{stack_of}
 use Rattle.dav_xml.proofs.TurnLemmas.{popped, closed_event}
 use Rattle.dav_xml.proofs.turn.close.Goals as goal
 

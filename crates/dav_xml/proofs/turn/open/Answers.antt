@@ -1,4 +1,4 @@
-use Rattle.std.proofs.Common.{◌≡◌, ◌+◌, ◌∷◌, length, length-append, [], refl, ap, sym, ◌∙◌, arith}
+use Rattle.std.proofs.Common.{◌∷◌, length, length-append, refl, ap, ◌∙◌, arith}
 use Rattle.dav_doc.specs.Machine as machine
 use Rattle.dav_doc.specs.Machine.{scope_of}
 use Rattle.dav_doc.specs.Names.{declared}

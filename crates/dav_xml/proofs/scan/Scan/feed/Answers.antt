@@ -1,5 +1,4 @@
-use Rattle.std.proofs.Common.{◌≡◌, ◌<◌, ◌≤◌, length, refl, ap, sym, ◌∙◌, arith, inl, inr, Some, None, Err, get_or, ◌⊎◌}
-use Rattle.dav_xml.specs.Read.{HasRead}
+use Rattle.std.proofs.Common.{refl, ap, sym, ◌∙◌, arith, Err}
 use Rattle.dav_xml.proofs.FeedLemmas.{fed_none, fed_more, fed_ready, fed_all, fed_later, stopped, going_not, fed_stops}
 use Rattle.dav_xml.proofs.scan.Scan.feed.Goals as goal
 
