@@ -1,7 +1,10 @@
-pub mod AsideLemmas
-pub mod ScopeLemmas
-pub mod TagLemmas
-pub mod RunLemmas
-pub mod OuterLemmas
-pub mod EndLemmas
-pub mod MarkupLemmas
+pub mod StackLemmas
+pub mod ReadLemmas
+pub mod StepLemmas
+pub mod TagStepLemmas
+pub mod TakeLemmas
+pub mod TurnLemmas
+pub mod OverLemmas
+pub mod FeedLemmas
+pub mod ScanLemmas
+pub mod LawLemmas
