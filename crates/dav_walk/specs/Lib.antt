@@ -1,0 +1,5 @@
+pub mod Tree
+pub mod Reading
+pub mod View
+pub mod Props
+pub mod PropsView

@@ -1,0 +1,12 @@
+//! A walker over a DAV document that lends one response after another: RFC 4918 section 14.24.
+#![tactic(auto)]
+
+mod code;
+mod node;
+mod props;
+mod reading;
+mod root;
+
+pub use node::{Node, Span};
+pub use props::{Prop, Props};
+pub use root::Root;

@@ -1,0 +1,86 @@
+ghost use Rattle.std.specs.Prelude.{◌≡◌, ℕ, ◌<◌, ◌≤◌, ◌-◌, ◌∷◌, length, codes};
+ghost use Rattle.dav_walk.specs.Reading.{props};
+ghost use Rattle.dav_walk.specs.Props.{placed, context_of as context_of_lem, context_in as context_in_lem, context_after as context_after_lem};
+ghost use Rattle.dav_walk.specs.PropsView.{left};
+ghost use Rattle.dav_walk.specs.View.{item_of, items_of};
+
+use crate::node::{Node, is_named};
+use crate::reading::code_below;
+
+/// A property that a response gives: the code of its `propstat`, and its element, which has this place
+/// among the nodes of the response.
+#[derive(Clone, Copy, Debug, PartialEq, Eq)]
+pub struct Prop<'a> {
+    pub status: u16,
+    pub place: usize,
+    pub node: &'a Node,
+}
+
+/// Where the next node stands.
+#[derive(Clone, Copy, Debug)]
+pub(crate) enum Context {
+    /// In no `propstat` that has a code.
+    Aside,
+    /// In a `propstat` with this code, and in no `prop` of it.
+    Propstat(u16),
+    /// In a `prop` of a `propstat` with this code.
+    Prop(u16),
+}
+
+/// The properties of a response, in document order.
+#[derive(Debug, Drop)]
+pub struct Props<'a> {
+    nodes: &'a [Node],
+    text: &'a [u8],
+    depth: u32,
+    at: usize,
+    context: Context,
+}
+
+/// Behind the start of a `propstat` with this code.
+fn context_of(code: Option<u16>) -> Context
+    ensures { result ≡ context_of_lem code }
+{
+    match code {
+        Some(code) => Context::Propstat(code),
+        None => Context::Aside,
+    }
+}
+
+/// Behind the start of a child of a `propstat`, which is `prop` or not.
+fn context_in(is_prop: bool, context: Context) -> Context
+    ensures { result ≡ context_in_lem is_prop context }
+{
+    match context {
+        Context::Aside => Context::Aside,
+        Context::Propstat(code) | Context::Prop(code) => {
+            if is_prop {
+                Context::Prop(code)
+            } else {
+                Context::Propstat(code)
+            }
+        }
+    }
+}
+
+/// Behind the start of a node that is so many levels below the response's own. The other nodes follow it.
+fn context_after(
+    level: u32,
+    node: &Node,
+    rest: &[Node],
+    text: &[u8],
+    context: Context,
+) -> Context
+    ensures { result ≡ context_after_lem level (item_of text.now node.now) (items_of rest.now text.now) context }
+{
+    if level == 1 {
+        if is_named(node, text, b"propstat") {
+            return context_of(code_below(rest, text, node.depth));
+        }
+        return Context::Aside;
+    }
+    if level == 2 {
+        return context_in(is_named(node, text, b"prop"), context);
+    }
+    context
+}
