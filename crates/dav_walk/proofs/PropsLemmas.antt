@@ -30,7 +30,7 @@ level_of d n =
       ]
     ]
 
-differs : (a b : ℕ) → b < a → (a == b) ≡ false
+pub differs : (a b : ℕ) → b < a → (a == b) ≡ false
 differs a b h = grind (arith, nat_tests)
 
 children_above : (d p : ℕ) (x : Item) (xs : List Item) → x.depth ≤ d → children d p (x ∷ xs) ≡ []
@@ -56,13 +56,13 @@ left_above : (d p : ℕ) (x : Item) (xs : List Item) (c : Context) → x.depth �
 left_above d p x xs c h =
     ap (λ (t : Bool). cond t [] (given_here (x.depth - d) p c ++ left_from d (p + 1) xs (context_after (x.depth - d) x xs c))) (past x.depth d h)
 
-left_at : (level d p : ℕ) (x : Item) (xs : List Item) (c : Context) → d < x.depth → x.depth - d ≡ level
+pub left_at : (level d p : ℕ) (x : Item) (xs : List Item) (c : Context) → d < x.depth → x.depth - d ≡ level
     → left_from d p (x ∷ xs) c ≡ given_here level p c ++ left_from d (p + 1) xs (context_after level x xs c)
 left_at level d p x xs c h e =
     ap (λ (t : Bool). cond t [] (given_here (x.depth - d) p c ++ left_from d (p + 1) xs (context_after (x.depth - d) x xs c))) (deeper x.depth d h)
     ∙ ap (λ l. given_here l p c ++ left_from d (p + 1) xs (context_after l x xs c)) e
 
-nothing_here : (level p : ℕ) (c : Context) → (level == 3) ≡ false → given_here level p c ≡ []
+pub nothing_here : (level p : ℕ) (c : Context) → (level == 3) ≡ false → given_here level p c ≡ []
 nothing_here level p Aside e = refl
 nothing_here level p (Propstat code) e = refl
 nothing_here level p (Prop code) e = ap (λ (t : Bool). cond t (record { status = code; place = p } ∷ []) []) e

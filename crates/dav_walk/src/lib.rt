@@ -2,11 +2,13 @@
 #![tactic(auto)]
 
 mod code;
+mod found;
 mod node;
 mod props;
 mod reading;
 mod root;
 
+pub use found::Found;
 pub use node::{Node, Span};
 pub use props::{Prop, Props};
 pub use root::Root;
