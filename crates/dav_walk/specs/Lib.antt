@@ -3,3 +3,5 @@ pub mod Reading
 pub mod View
 pub mod Props
 pub mod PropsView
+pub mod Lending
+pub mod Gathering

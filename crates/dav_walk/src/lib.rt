@@ -2,13 +2,17 @@
 #![tactic(auto)]
 
 mod code;
+mod fault;
 mod found;
+mod handler;
 mod node;
 mod props;
 mod reading;
 mod root;
 
+pub use fault::WalkFault;
 pub use found::Found;
+pub use handler::{Handler, Next};
 pub use node::{Node, Span};
 pub use props::{Prop, Props};
 pub use root::Root;
