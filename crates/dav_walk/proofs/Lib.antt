@@ -1,3 +1,4 @@
 pub mod ReadingLemmas
 pub mod PropsLemmas
 pub mod PassLemmas
+pub mod TreeLemmas

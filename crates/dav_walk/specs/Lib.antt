@@ -5,3 +5,4 @@ pub mod Props
 pub mod PropsView
 pub mod Lending
 pub mod Gathering
+pub mod Whole
