@@ -2,3 +2,4 @@ pub mod ReadingLemmas
 pub mod PropsLemmas
 pub mod PassLemmas
 pub mod TreeLemmas
+pub mod GatheredLemmas

@@ -6,3 +6,4 @@ pub mod PropsView
 pub mod Lending
 pub mod Gathering
 pub mod Whole
+pub mod GatheredView

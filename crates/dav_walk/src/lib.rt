@@ -4,6 +4,7 @@
 mod code;
 mod fault;
 mod found;
+mod gathered;
 mod handler;
 mod laws;
 mod node;
