@@ -3,3 +3,4 @@ pub mod PropsLemmas
 pub mod PassLemmas
 pub mod TreeLemmas
 pub mod GatheredLemmas
+pub mod OpenedLemmas

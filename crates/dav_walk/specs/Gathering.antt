@@ -67,12 +67,17 @@ abbrev pub owed_after : ℕ → ℕ → ℕ
 owed_after zero b = following b
 owed_after (suc n) b = n
 
+-- the innermost open element with one more byte of text
+abbrev pub with_longer : List Opened → ℕ → List Opened
+with_longer [] b = []
+with_longer (o ∷ os) b = record { place = o.place; text = o.text ++ (b ∷ []) } ∷ os
+
 abbrev pub with_byte : Gathering → List Opened → ℕ → Gathering
 with_byte g [] b = g
 with_byte g (o ∷ os) b = record {
   root = g.root;
   items = g.items;
-  opened = record { place = o.place; text = o.text ++ (b ∷ []) } ∷ os;
+  opened = with_longer (o ∷ os) b;
   held = g.held + 1;
   owed = owed_after g.owed b;
   index = g.index;

@@ -7,3 +7,4 @@ pub mod Lending
 pub mod Gathering
 pub mod Whole
 pub mod GatheredView
+pub mod OpenedView

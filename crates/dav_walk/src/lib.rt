@@ -8,6 +8,7 @@ mod gathered;
 mod handler;
 mod laws;
 mod node;
+mod opened;
 mod props;
 mod reading;
 mod root;

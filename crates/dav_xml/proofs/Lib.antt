@@ -1,7 +1,4 @@
-pub mod AsideLemmas
-pub mod ScopeLemmas
-pub mod TagLemmas
-pub mod RunLemmas
-pub mod OuterLemmas
-pub mod EndLemmas
-pub mod MarkupLemmas
+pub mod StackLemmas
+pub mod ReadLemmas
+pub mod TakeLemmas
+pub mod OverLemmas

@@ -1,21 +1,25 @@
-//! The parts of a scanner of DAV documents: what each byte does to a character, a reference, a name, a declaration, a comment or an
-//! instruction, a CDATA section, and a start tag with its namespaces, as steps of the machine of `dav_doc`. The scanner that joins
-//! them is still to come.
+//! The scanner of DAV documents: pieces of bytes in, the events of the document out.
+//!
+//! Which texts are documents, what their events are, and the machine that reads one byte by byte stand in `dav_doc`; what each byte
+//! does in a part of a document stands in `dav_markup`. Here the parts are joined: a scanner keeps a place in the document, the
+//! open elements, and the limits.
 #![tactic(auto)]
 
-mod aside;
-mod character;
-mod choice;
-mod declaration;
-mod end;
-mod kind;
+mod content;
+mod end_tag;
+mod event;
+mod fault;
+mod limit;
 mod markup;
-mod name;
-mod outer;
-mod reference;
-mod run;
-mod scope;
-mod section;
-mod tag;
+mod position;
+mod scan;
+mod start_tag;
+mod step;
+mod turn;
+
 #[cfg(test)]
 mod tests;
+
+pub use event::Event;
+pub use fault::XmlFault;
+pub use scan::{Fed, Scan};

@@ -1,146 +1,121 @@
-ghost use Rattle.std.specs.Prelude.{◌≡◌, ◌==◌, List};
-ghost use Rattle.dav_doc.specs.Document.{target_first as target_first_lem};
+ghost use Rattle.std.specs.Prelude.{◌≡◌, ◌∷◌, [], Some, IfOk, List, ℕ};
+ghost use Rattle.dav_doc.specs.Names.{written};
 ghost use Rattle.dav_doc.specs.Machine as machine;
-ghost use Rattle.dav_xml.specs.Aside.{target_in};
-ghost use Rattle.dav_xml.specs.Markup.{place_in, begun_in, marked_in, asked_in};
+ghost use Rattle.dav_markup.specs.Markup.{place_in};
+ghost use Rattle.dav_xml.specs.Stands.{stack_of, Stands, Inside, Placed};
+ghost use Rattle.dav_xml.specs.Moves.{Moves, Steps};
 
-use crate::aside::Target;
-use crate::kind::{ByteKind, kind_of};
+use crate::position::{Position, StartTag};
+use crate::step::Step;
+use dav_markup::aside::{After, Aside};
+use dav_markup::markup;
+use dav_markup::markup::{Asked, Begun, Marked, Place};
+use dav_markup::name::Name;
+use dav_markup::outer::{Outer, Way};
+use dav_markup::scope::Open;
+use dav_markup::section::{Brackets, Section};
+use dav_text::{Blob, Memory};
+use std::alloc::Global;
 
-/// Where in a document markup stands.
-#[derive(Clone, Copy, Debug, PartialEq, Eq)]
-pub(crate) enum Place {
-    /// At the first byte.
-    First,
-    /// Later before the root.
-    Before,
-    /// In an element.
-    Inside,
-    /// Behind the root.
-    Behind,
+/// A byte before the root, outside of markup.
+pub(crate) fn in_outer(outer: Outer, byte: u8) -> Option<Step>
+    ensures { (os : List machine.Open) → Steps (Position.Outer outer) result os byte }
+{
+    match outer.after(byte) {
+        Way::Bad => None,
+        Way::Further(next) => Some(Step::Further(Position::Outer(next))),
+        Way::FirstMarkup => Some(Step::Further(Position::Less(Place::First))),
+        Way::Markup => Some(Step::Further(Position::Less(Place::Before))),
+        Way::Instruction(aside) => Some(Step::Further(Position::Aside {
+            place: Place::First,
+            aside,
+        })),
+    }
 }
 
-/// What the byte behind `<` begins.
-#[derive(Clone, Copy, Debug, PartialEq, Eq)]
-pub(crate) enum Begun {
-    /// No document has it there.
-    Bad,
-    /// A start tag, whose name begins with the byte.
-    Tag(u8),
-    /// An end tag.
-    EndTag,
-    /// What begins with `<!`.
-    Mark,
-    /// What begins with `<?`.
-    Question,
+/// The first byte of the name of a start tag.
+fn begin_name(alloc: Global, byte: u8) -> Result<Option<Step>, Memory>
+    ensures { IfOk result (λ step. step ≡ Some (Step.Further (Position.Start (StartTag.Name (Name.Plain (byte ∷ [])))))) }
+{
+    let name = Name::Plain(Blob::copy_of(alloc, &[byte])?);
+    Ok(Some(Step::Further(Position::Start(StartTag::Name(name)))))
 }
 
-/// What the byte behind `<!` begins.
-#[derive(Clone, Copy, Debug, PartialEq, Eq)]
-pub(crate) enum Marked {
-    Bad,
-    Comment,
-    Section,
+/// The slash of the end tag of the innermost of these elements.
+fn begin_end(alloc: Global, opens: &[Open]) -> Result<Option<Step>, Memory>
+    ensures { IfOk result (λ step. (i : Inside (stack_of opens.now)) (st : machine.State) (b : ℕ)
+        → machine.step st b ≡ machine.To (machine.end_next i.element i.around [] (written i.element.name)) [] → Moves step (stack_of opens.now) st b) }
+{
+    let Some(open) = opens.last() else {
+        return Ok(None);
+    };
+    let name = open.name.written(alloc)?;
+    Ok(Some(Step::Further(Position::End { name, came: 0 })))
 }
 
-/// What the byte behind `<?` begins.
-#[derive(Clone, Copy, Debug, PartialEq, Eq)]
-pub(crate) enum Asked {
-    Bad,
-    /// A declaration, or an instruction whose target begins with `x`.
-    Declaration,
-    Instruction(Target),
+/// The byte behind `<`.
+pub(crate) fn behind_less(
+    alloc: Global,
+    opens: &[Open],
+    place: Place,
+    byte: u8,
+) -> Result<Option<Step>, Memory>
+    ensures { IfOk result (λ step. Steps (Position.Less place) step (stack_of opens.now) byte) }
+{
+    match markup::behind_less(place, byte) {
+        Begun::Bad => Ok(None),
+        Begun::Tag(first) => begin_name(alloc, first),
+        Begun::EndTag => begin_end(alloc, opens),
+        Begun::Mark => Ok(Some(Step::Further(Position::Mark(place)))),
+        Begun::Question => Ok(Some(Step::Further(Position::Question(place)))),
+    }
 }
 
-fn tag(place: Place, byte: u8) -> Begun
-    ensures { (o : machine.Open) (os : List machine.Open) → machine.letter_step (place_in place o os) byte ≡ begun_in result place o os }
+/// The byte behind `<!`.
+pub(crate) fn behind_mark(place: Place, byte: u8) -> Option<Step>
+    ensures { (os : List machine.Open) → Steps (Position.Mark place) result os byte }
+{
+    match markup::behind_mark(place, byte) {
+        Marked::Bad => None,
+        Marked::Comment => Some(Step::Further(Position::Aside {
+            place,
+            aside: Aside::OpenComment,
+        })),
+        Marked::Section => Some(Step::Further(Position::Section(Section::WantsC))),
+    }
+}
+
+/// The byte behind `<?`.
+pub(crate) fn behind_question(place: Place, byte: u8) -> Option<Step>
+    ensures { (os : List machine.Open) → Steps (Position.Question place) result os byte }
+{
+    match markup::behind_question(place, byte) {
+        Asked::Bad => None,
+        Asked::Declaration => Some(Step::Further(Position::Outer(Outer::DeclareX))),
+        Asked::Instruction(target) => Some(Step::Further(Position::Aside {
+            place,
+            aside: Aside::InTarget(target),
+        })),
+    }
+}
+
+/// Where a scanner stands outside of markup at that place.
+fn outside(place: Place) -> Position
+    ensures { (os : List machine.Open) (i : Placed place os) → Stands result os (machine.at (place_in place i.element i.around)) }
 {
     match place {
-        Place::Behind => Begun::Bad,
-        _ => Begun::Tag(byte),
+        Place::First | Place::Before => Position::Outer(Outer::Outside),
+        Place::Inside | Place::Behind => Position::Text(Brackets::Zero),
     }
 }
 
-fn end_tag(place: Place) -> Begun
-    ensures { (o : machine.Open) (os : List machine.Open) → machine.slash_step (place_in place o os) ≡ begun_in result place o os }
+/// A byte in a comment or an instruction.
+pub(crate) fn in_aside(place: Place, aside: Aside, byte: u8) -> Option<Step>
+    ensures { (os : List machine.Open) → Steps (Position.Aside place aside) result os byte }
 {
-    match place {
-        Place::Inside => Begun::EndTag,
-        _ => Begun::Bad,
-    }
-}
-
-/// What the byte behind `<` begins.
-pub(crate) fn behind_less(place: Place, byte: u8) -> Begun
-    ensures { (o : machine.Open) (os : List machine.Open) → machine.step (machine.Markup (place_in place o os)) byte ≡ begun_in result place o os }
-{
-    if byte == b'?' {
-        return Begun::Question;
-    }
-    match kind_of(byte) {
-        ByteKind::Letter => tag(place, byte),
-        ByteKind::Slash => end_tag(place),
-        ByteKind::Exclamation => Begun::Mark,
-        _ => Begun::Bad,
-    }
-}
-
-fn section(place: Place, byte: u8) -> Marked
-    ensures { (o : machine.Open) (os : List machine.Open) → machine.section_begins (place_in place o os) byte ≡ marked_in result place o os }
-{
-    match place {
-        Place::Inside => {
-            if byte == b'[' {
-                Marked::Section
-            } else {
-                Marked::Bad
-            }
-        }
-        _ => Marked::Bad,
-    }
-}
-
-/// What the byte behind `<!` begins. A DOCTYPE is none.
-pub(crate) fn behind_mark(place: Place, byte: u8) -> Marked
-    ensures { (o : machine.Open) (os : List machine.Open) → machine.step (machine.Mark (place_in place o os)) byte ≡ marked_in result place o os }
-{
-    if byte == b'-' {
-        return Marked::Comment;
-    }
-    section(place, byte)
-}
-
-/// How a target begins with its first byte.
-fn target_first(byte: u8) -> Target
-    ensures { target_in result ≡ target_first_lem byte }
-{
-    if byte == b'x' || byte == b'X' {
-        return Target::X;
-    }
-    Target::Unlike
-}
-
-fn first_letter(place: Place, byte: u8) -> Asked
-    ensures { (o : machine.Open) (os : List machine.Open) → machine.question_first (place_in place o os) byte (byte == 120) ≡ asked_in result place o os }
-{
-    match place {
-        Place::First => {
-            if byte == b'x' {
-                Asked::Declaration
-            } else {
-                Asked::Instruction(target_first(byte))
-            }
-        }
-        _ => Asked::Instruction(target_first(byte)),
-    }
-}
-
-/// What the byte behind `<?` begins.
-pub(crate) fn behind_question(place: Place, byte: u8) -> Asked
-    ensures { (o : machine.Open) (os : List machine.Open) → machine.step (machine.Question (place_in place o os)) byte ≡ asked_in result place o os }
-{
-    match kind_of(byte) {
-        ByteKind::Letter => first_letter(place, byte),
-        _ => Asked::Bad,
+    match aside.after(byte) {
+        After::Bad => None,
+        After::Further(aside) => Some(Step::Further(Position::Aside { place, aside })),
+        After::Ended => Some(Step::Further(outside(place))),
     }
 }

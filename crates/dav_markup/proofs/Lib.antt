@@ -1,0 +1,7 @@
+pub mod AsideLemmas
+pub mod ScopeLemmas
+pub mod TagLemmas
+pub mod RunLemmas
+pub mod OuterLemmas
+pub mod EndLemmas
+pub mod MarkupLemmas

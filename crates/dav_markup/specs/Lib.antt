@@ -1,0 +1,15 @@
+pub mod Kind
+pub mod Owing
+pub mod Reference
+pub mod Name
+pub mod Scope
+pub mod Aside
+pub mod Section
+pub mod Tag
+pub mod Declaration
+pub mod Run
+pub mod Outer
+pub mod End
+pub mod Markup
+pub mod Choice
+pub mod Few

@@ -1,7 +1,0 @@
-use Rattle.std.proofs.Common.{[], ap}
-use Rattle.dav_doc.specs.Machine.{To}
-use Rattle.dav_xml.proofs.OuterLemmas.{wants}
-use Rattle.dav_xml.proofs.outer.continued.Goals as goal
-
-pub returns-in_default : goal.returns-in_default
-returns-in_default c = ap (λ s. To s []) (wants c.args.next c.in_default.not-Done)

@@ -1,0 +1,192 @@
+ghost use Rattle.std.specs.Prelude.{◌≡◌, ◌+◌, ◌<◌, ◌^◌, ◌⊎◌, ◌∷◌, [], ◌++◌, List, ℕ, length, Some, Err, IfOk, IfErr};
+ghost use Rattle.dav_xml.specs.Parts.{StepAt};
+ghost use Rattle.dav_xml.specs.Stands.{stack_of};
+ghost use Rattle.dav_doc.specs.Document as document;
+ghost use Rattle.dav_doc.specs.Document.{Forest, IsDocument, events};
+ghost use Rattle.dav_xml.specs.Events.{lent_in, later_in, event_in};
+ghost use Rattle.dav_xml.specs.Read.{HasRead, Feeds, Stops, Fails, lent};
+
+use crate::event::{Event, Lent};
+use crate::fault::XmlFault;
+use crate::limit::limit_of;
+use crate::position::Position;
+use crate::step::Step;
+use crate::turn::{Turn, size_at, take_step};
+use dav_markup::character::Owed;
+use dav_markup::outer::Outer;
+use dav_markup::scope::Open;
+use dav_text::Memory;
+use std::alloc::Global;
+use std::mem;
+
+/// What a scanner did with a piece: how many of its bytes it took, and whether an event is ready.
+#[derive(Clone, Copy, Debug, PartialEq, Eq)]
+pub struct Fed {
+    pub used: usize,
+    pub ready: bool,
+}
+
+/// A scanner of one document, which comes in pieces.
+#[derive(Debug, Drop)]
+pub struct Scan {
+    alloc: Global,
+    /// The bytes taken so far.
+    at: u64,
+    owed: Owed,
+    position: Position,
+    opens: Vec<Open>,
+    /// The open elements.
+    depth: u32,
+    /// The bytes of the tag so far, 0 outside of tags.
+    size: u32,
+    lent: Lent,
+    fault: Option<XmlFault>,
+}
+
+/// What a byte does below these open elements.
+fn step_at(
+    alloc: Global,
+    position: Position,
+    opens: &[Open],
+    at: u64,
+    byte: u8,
+) -> Result<Step, XmlFault>
+    ensures { StepAt position (stack_of opens.now) at byte result }
+{
+    match position.after(alloc, opens, byte) {
+        Ok(Some(step)) => Ok(step),
+        Ok(None) => Err(XmlFault::Bad { at }),
+        Err(Memory) => Err(XmlFault::Memory),
+    }
+}
+
+impl Scan {
+    /// A scanner before the first byte.
+    pub fn new(alloc: Global) -> Result<Scan, Memory>
+        ensures { IfOk result (λ scan. HasRead scan [] []) }
+    {
+        Ok(Scan {
+            alloc,
+            at: 0,
+            owed: Owed::Whole,
+            position: Position::Outer(Outer::Begin),
+            opens: Vec::new(alloc),
+            depth: 0,
+            size: 0,
+            lent: Lent::Nothing,
+            fault: None,
+        })
+    }
+
+    /// Takes one byte.
+    fn take(&mut self, byte: u8) -> Result<(), XmlFault>
+        requires { self.old.at + 1 < 2 ^ 64 }
+        ensures goes { (text : List ℕ) (given : List document.Event) → HasRead self.old text given → later_in self.old.lent ≡ []
+            → IfOk result (λ _. HasRead self.new (text ++ byte ∷ []) (given ++ lent_in self.new.lent)) }
+        ensures stops { (text : List ℕ) (given : List document.Event) → HasRead self.old text given → later_in self.old.lent ≡ []
+            → IfErr result (λ fault. (fault ≡ XmlFault.Memory) ⊎ Fails text given byte fault) }
+        ensures at { IfOk result (λ _. self.new.at ≡ self.old.at + 1) }
+    {
+        let Some(owed) = self.owed.after(byte) else {
+            return Err(XmlFault::Bad { at: self.at });
+        };
+        let position = mem::replace(&mut self.position, Position::Return);
+        let step = match step_at(self.alloc, position, &self.opens, self.at, byte) {
+            Ok(step) => step,
+            Err(fault) => return Err(fault),
+        };
+        if let Some(which) = limit_of(&step, self.depth, self.size) {
+            return Err(XmlFault::Limit { which });
+        }
+        let Ok(turn) = take_step(self.alloc, &mut self.opens, self.depth, step) else {
+            return Err(XmlFault::Memory);
+        };
+        let Turn {
+            position,
+            depth,
+            lent,
+        } = turn;
+        self.size = size_at(&position, self.size);
+        self.position = position;
+        self.depth = depth;
+        self.lent = lent;
+        self.owed = owed;
+        self.at += 1;
+        Ok(())
+    }
+
+    /// Takes bytes of the piece up to the first event, which is then ready. Where none is ready the
+    /// whole piece was taken. The document is the pieces joined, each without what was left of it.
+    ///
+    /// # Errors
+    ///
+    /// Bad at the first byte that no document has there, Limit at a byte that passes one, and
+    /// Memory. Every later call answers the same fault.
+    pub fn feed(&mut self, piece: &[u8]) -> Result<Fed, XmlFault>
+        requires { self.old.at + length piece.now < 2 ^ 64 }
+        ensures goes { (text : List ℕ) (given : List document.Event) → HasRead self.old text given → IfOk result (λ fed. Feeds text given piece.now fed self.new) }
+        ensures stops { (text : List ℕ) (given : List document.Event) → HasRead self.old text given
+            → IfErr result (λ fault. (fault ≡ XmlFault.Memory) ⊎ Stops text given piece.now fault) }
+        ensures fails { IfErr result (λ fault. self.new.fault ≡ Some fault) }
+        ensures same { (fault : XmlFault) → self.old.fault ≡ Some fault → result ≡ Err fault }
+    {
+        if let Some(fault) = self.fault {
+            return Err(fault);
+        }
+        if let Some(later) = self.lent.later() {
+            self.lent = later;
+            return Ok(Fed {
+                used: 0,
+                ready: true,
+            });
+        }
+        for (index, byte) in piece.iter().enumerate() {
+            match self.take(*byte) {
+                Ok(()) => {}
+                Err(fault) => {
+                    self.fault = Some(fault);
+                    return Err(fault);
+                }
+            }
+            if self.lent.is_ready() {
+                return Ok(Fed {
+                    used: index + 1,
+                    ready: true,
+                });
+            }
+        }
+        self.lent = Lent::Nothing;
+        Ok(Fed {
+            used: piece.len(),
+            ready: false,
+        })
+    }
+
+    /// The event that is ready. Text without a byte where none is.
+    pub fn event(&self) -> Event<'_>
+        ensures { event_in result ≡ lent self.now }
+    {
+        self.lent.event()
+    }
+
+    /// Whether the bytes so far are a document.
+    ///
+    /// # Errors
+    ///
+    /// Cut where they are none, or the fault that a feed answered.
+    pub fn end(&self) -> Result<(), XmlFault>
+        ensures whole { (text : List ℕ) (given : List document.Event) → HasRead self.now text given
+            → IfOk result (λ _. (tree : Forest) × IsDocument tree text × (events 1 tree ≡ given ++ later_in self.now.lent)) }
+        ensures cut { (text : List ℕ) (given : List document.Event) → HasRead self.now text given
+            → IfErr result (λ fault. (fault ≡ XmlFault.Cut) × ((tree : Forest) → IsDocument tree text → ⊥)) }
+        ensures same { (fault : XmlFault) → self.now.fault ≡ Some fault → result ≡ Err fault }
+    {
+        if let Some(fault) = self.fault {
+            return Err(fault);
+        }
+        if self.owed == Owed::Whole && self.opens.is_empty() && self.position.is_outside() {
+            return Ok(());
+        }
+        Err(XmlFault::Cut)
+    }
+}
