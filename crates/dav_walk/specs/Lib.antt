@@ -8,3 +8,4 @@ pub mod Gathering
 pub mod Whole
 pub mod GatheredView
 pub mod OpenedView
+pub mod Collecting

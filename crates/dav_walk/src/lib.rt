@@ -2,6 +2,7 @@
 #![tactic(auto)]
 
 mod code;
+mod collector;
 mod fault;
 mod found;
 mod gathered;
