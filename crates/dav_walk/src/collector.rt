@@ -1,8 +1,11 @@
-ghost use Rattle.std.specs.Prelude.{◌≡◌, ℕ, ◌+◌, ◌<◌, ◌≤◌, ◌⊎◌, ◌&&◌, ◌||◌, not, length, None, Some, IfOk, IfErr, MatchOption};
+ghost use Rattle.std.specs.Prelude.{◌≡◌, ℕ, ◌+◌, ◌<◌, ◌≤◌, ◌⊎◌, ◌&&◌, ◌||◌, not, length, None, Some, Ok, true, false, [], ◌∷◌, IfOk, IfErr, MatchOption};
+ghost use Rattle.dav_doc.specs.Machine.{chars as chars_lem};
+ghost use Rattle.dav_xml.specs.Events.{event_in};
+ghost use Rattle.dav_walk.specs.Lending.{LentAll, LentToStop};
 ghost use Rattle.dav_doc.specs.Document.{Start, Char, End};
 ghost use Rattle.dav_walk.specs.declared.fault.WalkFault.TheVariants as faults;
 ghost use Rattle.dav_walk.specs.Tree.{is_dav};
-ghost use Rattle.dav_walk.specs.Gathering.{begins as begins_lem, root_name as root_name_lem, owed_after as owed_after_lem, following as following_lem, between, is_kept, count_fault, response_fault, fault_of, next, is_open};
+ghost use Rattle.dav_walk.specs.Gathering.{begins as begins_lem, root_name as root_name_lem, owed_after as owed_after_lem, following as following_lem, between, is_kept, count_fault, response_fault, end_fault, with_end, ended_by, fault_of, next, is_open, walk, Goes, Fails};
 
 use crate::fault::WalkFault;
 use crate::gathered::{Gathered, HELD_MAX, NODES_MAX};
@@ -10,6 +13,7 @@ use crate::handler::{Handler, Next};
 use crate::opened::Stack;
 use crate::root::Root;
 use dav_text::Which;
+use dav_xml::Event;
 use std::alloc::Global;
 
 /// The response that comes, if one is open, and how many have ended.
@@ -193,5 +197,97 @@ impl Collector {
         self.held += 1;
         self.owed = owed;
         Ok(())
+    }
+
+    /// Takes the end of the innermost element. True where a response ends with it, which is then judged.
+    fn close(&mut self) -> Result<bool, WalkFault>
+        ensures open { result ≡ Ok false → (end_fault (gathering_of self.old) self.old.opened ≡ None)
+            × (gathering_of self.new ≡ with_end (gathering_of self.old) self.old.opened) × (ended_by (gathering_of self.old) self.old.opened ≡ []) }
+        ensures whole { result ≡ Ok true → (end_fault (gathering_of self.old) self.old.opened ≡ None)
+            × (with_end (gathering_of self.old) self.old.opened ≡ between self.new.root (self.new.index + 1))
+            × (ended_by (gathering_of self.old) self.old.opened ≡ record { items = self.new.gathered; index = self.new.index } ∷ [])
+            × (self.new.opened ≡ []) }
+        ensures err { IfErr result (λ fault. (fault ≡ faults.Memory) ⊎ (end_fault (gathering_of self.old) self.old.opened ≡ Some fault)) }
+    {
+        let Some(innermost) = self.opened.pop() else {
+            return Ok(false);
+        };
+        self.gathered
+            .set_text(innermost.place, &innermost.text)?;
+        if !self.opened.is_empty() {
+            return Ok(false);
+        }
+        match judge(self.root, &self.gathered, self.index) {
+            Ok(()) => Ok(true),
+            Err(fault) => Err(fault),
+        }
+    }
+
+    /// Takes the end of the innermost element. Where a response ends with it, lends that.
+    pub(crate) fn end<H: Handler>(&mut self, handler: &mut H) -> Result<Next, WalkFault>
+        ensures go { result ≡ Ok Next.Go → (end_fault (gathering_of self.old) self.old.opened ≡ None)
+            × (gathering_of self.new ≡ with_end (gathering_of self.old) self.old.opened)
+            × LentAll H.lends handler.old (ended_by (gathering_of self.old) self.old.opened) handler.new }
+        ensures stop { result ≡ Ok Next.Stop → (end_fault (gathering_of self.old) self.old.opened ≡ None)
+            × (gathering_of self.new ≡ with_end (gathering_of self.old) self.old.opened)
+            × LentToStop H.lends handler.old (ended_by (gathering_of self.old) self.old.opened) handler.new }
+        ensures err { IfErr result (λ fault. (handler.new ≡ handler.old) × ((fault ≡ faults.Memory) ⊎ (end_fault (gathering_of self.old) self.old.opened ≡ Some fault))) }
+    {
+        match self.close() {
+            Ok(true) => {}
+            Ok(false) => return Ok(Next::Go),
+            Err(fault) => return Err(fault),
+        }
+        let Some(index) = self.index.checked_add(1) else {
+            return Err(WalkFault::Memory);
+        };
+        let next = self.gathered.lend(self.index, handler);
+        self.gathered.clear();
+        self.held = 0;
+        self.owed = 0;
+        self.index = index;
+        Ok(next)
+    }
+
+    /// Takes text.
+    fn chars(&mut self, bytes: &[u8]) -> Result<(), WalkFault>
+        ensures ok { IfOk result (λ _. walk (gathering_of self.old) (chars_lem bytes.now) ≡ record { ended = []; outcome = Goes (gathering_of self.new) }) }
+        ensures err { IfErr result (λ fault. (fault ≡ faults.Memory) ⊎ (walk (gathering_of self.old) (chars_lem bytes.now) ≡ record { ended = []; outcome = Fails fault })) }
+    {
+        let mut rest = bytes;
+        while let Some((byte, others)) = rest.split_first() {
+            match self.byte(*byte) {
+                Ok(()) => {}
+                Err(fault) => return Err(fault),
+            }
+            rest = others;
+        }
+        Ok(())
+    }
+
+    /// Takes the next event of the document. Where a response ends with it, lends that.
+    pub(crate) fn take<H: Handler>(
+        &mut self,
+        event: Event<'_>,
+        handler: &mut H,
+    ) -> Result<Next, WalkFault>
+        ensures go { result ≡ Ok Next.Go → ((walk (gathering_of self.old) (event_in event.entry)).outcome ≡ Goes (gathering_of self.new))
+            × LentAll H.lends handler.old (walk (gathering_of self.old) (event_in event.entry)).ended handler.new }
+        ensures stop { result ≡ Ok Next.Stop → ((walk (gathering_of self.old) (event_in event.entry)).outcome ≡ Goes (gathering_of self.new))
+            × LentToStop H.lends handler.old (walk (gathering_of self.old) (event_in event.entry)).ended handler.new }
+        ensures err { IfErr result (λ fault. (handler.new ≡ handler.old) × ((fault ≡ faults.Memory)
+            ⊎ (walk (gathering_of self.old) (event_in event.entry) ≡ record { ended = []; outcome = Fails fault }))) }
+    {
+        match event {
+            Event::Start { depth, ns, name } => match self.start(depth, ns, name) {
+                Ok(()) => Ok(Next::Go),
+                Err(fault) => Err(fault),
+            },
+            Event::Chars { bytes } => match self.chars(bytes) {
+                Ok(()) => Ok(Next::Go),
+                Err(fault) => Err(fault),
+            },
+            Event::End { depth: _ } => self.end(handler),
+        }
     }
 }
