@@ -4,3 +4,5 @@ pub mod PassLemmas
 pub mod TreeLemmas
 pub mod GatheredLemmas
 pub mod OpenedLemmas
+pub mod WalkLemmas
+pub mod Midway

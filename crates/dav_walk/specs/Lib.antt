@@ -9,3 +9,4 @@ pub mod Whole
 pub mod GatheredView
 pub mod OpenedView
 pub mod Collecting
+pub mod Walking

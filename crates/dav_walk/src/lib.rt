@@ -13,6 +13,7 @@ mod opened;
 mod props;
 mod reading;
 mod root;
+mod walker;
 
 pub use fault::WalkFault;
 pub use found::Found;
@@ -21,3 +22,4 @@ pub use laws::all_given;
 pub use node::{Node, Span};
 pub use props::{Prop, Props};
 pub use root::Root;
+pub use walker::Walk;
