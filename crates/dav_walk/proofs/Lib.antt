@@ -5,4 +5,3 @@ pub mod TreeLemmas
 pub mod GatheredLemmas
 pub mod OpenedLemmas
 pub mod WalkLemmas
-pub mod Midway

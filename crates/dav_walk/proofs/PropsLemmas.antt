@@ -111,19 +111,19 @@ prop_left d code p (x ∷ xs) =
     elim (level_of d x.depth) [
       | above h ↦ joined (map (given_by code)) _ [] _ [] _ [] (left_above d p x xs (Prop code) h) (children_above (d + 2) p x xs (omega arith)) (left_above d p x xs (Propstat code) h) refl
       | first h ↦
-        let s = left_from d (p + 1) xs (if is_dav x.ns x.name (codes "propstat") then context_of (propstat_code x.depth xs) else Aside) in
-        joined (map (given_by code)) _ s _ s _ [] (left_first d p x xs (Prop code) h) (children_above (d + 2) p x xs (omega arith)) (left_first d p x xs (Propstat code) h) refl
+          let s = left_from d (p + 1) xs (if is_dav x.ns x.name (codes "propstat") then context_of (propstat_code x.depth xs) else Aside) in
+          joined (map (given_by code)) _ s _ s _ [] (left_first d p x xs (Prop code) h) (children_above (d + 2) p x xs (omega arith)) (left_first d p x xs (Propstat code) h) refl
       | second h ↦
-        joined (map (given_by code)) _ _ _ (left_from d (p + 1) xs (context_in (is_dav x.ns x.name (codes "prop")) (Propstat code))) _ [] (left_second d p x xs (Prop code) h) (children_above (d + 2) p x xs (omega arith)) (left_second d p x xs (Propstat code) h)
-        (ap (left_from d (p + 1) xs) (same_in (is_dav x.ns x.name (codes "prop")) code))
+          joined (map (given_by code)) _ _ _ (left_from d (p + 1) xs (context_in (is_dav x.ns x.name (codes "prop")) (Propstat code))) _ [] (left_second d p x xs (Prop code) h) (children_above (d + 2) p x xs (omega arith)) (left_second d p x xs (Propstat code) h)
+          (ap (left_from d (p + 1) xs) (same_in (is_dav x.ns x.name (codes "prop")) code))
       | third h ↦
-        let c : Child = record { place = p; item = x; following = xs } in
-        joined (map (given_by code)) _ (given_by code c ∷ left_from d (p + 1) xs (Prop code)) _ (left_from d (p + 1) xs (Propstat code)) _ (c ∷ children (d + 2) (p + 1) xs)
-        (left_third d p x xs (Prop code) h) (children_first (d + 2) p x xs (omega arith)) (left_third d p x xs (Propstat code) h)
-        (ap (λ z. given_by code c ∷ z) again)
+          let c : Child = record { place = p; item = x; following = xs } in
+          joined (map (given_by code)) _ (given_by code c ∷ left_from d (p + 1) xs (Prop code)) _ (left_from d (p + 1) xs (Propstat code)) _ (c ∷ children (d + 2) (p + 1) xs)
+          (left_third d p x xs (Prop code) h) (children_first (d + 2) p x xs (omega arith)) (left_third d p x xs (Propstat code) h)
+          (ap (λ z. given_by code c ∷ z) again)
       | further h ↦
-        joined (map (given_by code)) _ (left_from d (p + 1) xs (Prop code)) _ (left_from d (p + 1) xs (Propstat code)) _ (children (d + 2) (p + 1) xs)
-        (left_further d p x xs (Prop code) h) (children_further (d + 2) p x xs (omega arith)) (left_further d p x xs (Propstat code) h) again
+          joined (map (given_by code)) _ (left_from d (p + 1) xs (Prop code)) _ (left_from d (p + 1) xs (Propstat code)) _ (children (d + 2) (p + 1) xs)
+          (left_further d p x xs (Prop code) h) (children_further (d + 2) p x xs (omega arith)) (left_further d p x xs (Propstat code) h) again
     ]
 
 -- a child of a `propstat`
@@ -148,19 +148,19 @@ propstat_left d code p (x ∷ xs) =
     elim (level_of d x.depth) [
       | above h ↦ joined (of_props code) _ [] _ [] _ [] (left_above d p x xs (Propstat code) h) (children_above (d + 1) p x xs (omega arith)) (left_above d p x xs Aside h) refl
       | first h ↦
-        let s = left_from d (p + 1) xs (if is_dav x.ns x.name (codes "propstat") then context_of (propstat_code x.depth xs) else Aside) in
-        joined (of_props code) _ s _ s _ [] (left_first d p x xs (Propstat code) h) (children_above (d + 1) p x xs (omega arith)) (left_first d p x xs Aside h) refl
+          let s = left_from d (p + 1) xs (if is_dav x.ns x.name (codes "propstat") then context_of (propstat_code x.depth xs) else Aside) in
+          joined (of_props code) _ s _ s _ [] (left_first d p x xs (Propstat code) h) (children_above (d + 1) p x xs (omega arith)) (left_first d p x xs Aside h) refl
       | second h ↦
-        let c : Child = record { place = p; item = x; following = xs } in
-        joined (of_props code) _ _ _ (left_from d (p + 1) xs Aside) _ (c ∷ children (d + 1) (p + 1) xs)
-        (left_second d p x xs (Propstat code) h) (children_first (d + 1) p x xs (omega arith)) (left_second d p x xs Aside h)
-        (prop_or_not (is_dav x.ns x.name (codes "prop")) d code p x xs h again)
+          let c : Child = record { place = p; item = x; following = xs } in
+          joined (of_props code) _ _ _ (left_from d (p + 1) xs Aside) _ (c ∷ children (d + 1) (p + 1) xs)
+          (left_second d p x xs (Propstat code) h) (children_first (d + 1) p x xs (omega arith)) (left_second d p x xs Aside h)
+          (prop_or_not (is_dav x.ns x.name (codes "prop")) d code p x xs h again)
       | third h ↦
-        joined (of_props code) _ (left_from d (p + 1) xs (Propstat code)) _ (left_from d (p + 1) xs Aside) _ (children (d + 1) (p + 1) xs)
-        (left_third d p x xs (Propstat code) h) (children_further (d + 1) p x xs (omega arith)) (left_third d p x xs Aside h) again
+          joined (of_props code) _ (left_from d (p + 1) xs (Propstat code)) _ (left_from d (p + 1) xs Aside) _ (children (d + 1) (p + 1) xs)
+          (left_third d p x xs (Propstat code) h) (children_further (d + 1) p x xs (omega arith)) (left_third d p x xs Aside h) again
       | further h ↦
-        joined (of_props code) _ (left_from d (p + 1) xs (Propstat code)) _ (left_from d (p + 1) xs Aside) _ (children (d + 1) (p + 1) xs)
-        (left_further d p x xs (Propstat code) h) (children_further (d + 1) p x xs (omega arith)) (left_further d p x xs Aside h) again
+          joined (of_props code) _ (left_from d (p + 1) xs (Propstat code)) _ (left_from d (p + 1) xs Aside) _ (children (d + 1) (p + 1) xs)
+          (left_further d p x xs (Propstat code) h) (children_further (d + 1) p x xs (omega arith)) (left_further d p x xs Aside h) again
     ]
 
 with_code : (code : Option ℕ) (d p : ℕ) (x : Item) (xs : List Item) → x.depth ≡ d + 1
@@ -186,9 +186,9 @@ all_left d p (x ∷ xs) =
     elim (level_of d x.depth) [
       | above h ↦ left_above d p x xs Aside h ∙ sym (ap of_propstats (children_above d p x xs h))
       | first h ↦
-        left_first d p x xs Aside h
-        ∙ propstat_or_not (is_dav x.ns x.name (codes "propstat")) d p x xs h again
-        ∙ sym (ap of_propstats (children_first d p x xs h))
+          left_first d p x xs Aside h
+          ∙ propstat_or_not (is_dav x.ns x.name (codes "propstat")) d p x xs h again
+          ∙ sym (ap of_propstats (children_first d p x xs h))
       | second h ↦ left_second d p x xs Aside h ∙ again ∙ sym (ap of_propstats (children_further d p x xs (omega arith)))
       | third h ↦ left_third d p x xs Aside h ∙ again ∙ sym (ap of_propstats (children_further d p x xs (omega arith)))
       | further h ↦ left_further d p x xs Aside h ∙ again ∙ sym (ap of_propstats (children_further d p x xs (omega arith)))

@@ -9,4 +9,3 @@ pub mod Whole
 pub mod GatheredView
 pub mod OpenedView
 pub mod Collecting
-pub mod Walking

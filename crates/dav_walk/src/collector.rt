@@ -1,6 +1,5 @@
 ghost use Rattle.std.specs.Prelude.{◌≡◌, ℕ, ◌+◌, ◌<◌, ◌≤◌, ◌⊎◌, ◌&&◌, ◌||◌, not, length, None, Some, Ok, true, false, [], ◌∷◌, IfOk, IfErr, MatchOption};
 ghost use Rattle.dav_doc.specs.Machine.{chars as chars_lem};
-ghost use Rattle.dav_xml.specs.Events.{event_in};
 ghost use Rattle.dav_walk.specs.Lending.{LentAll, LentToStop};
 ghost use Rattle.dav_doc.specs.Document.{Start, Char, End};
 ghost use Rattle.dav_walk.specs.declared.fault.WalkFault.TheVariants as faults;
@@ -13,12 +12,12 @@ use crate::handler::{Handler, Next};
 use crate::opened::Stack;
 use crate::root::Root;
 use dav_text::Which;
-use dav_xml::Event;
 use std::alloc::Global;
 
-/// The response that comes, if one is open, and how many have ended.
+/// The response that comes, if one is open, and how many have ended. It takes the events of one document in
+/// order, and keeps one response at most. After a fault it is not to be used again.
 #[derive(Debug, Drop)]
-pub(crate) struct Collector {
+pub struct Collector {
     pub(crate) root: Root,
     pub(crate) gathered: Gathered,
     pub(crate) opened: Stack,
@@ -121,7 +120,7 @@ impl Collector {
     ghost use Rattle.dav_walk.specs.Collecting.{gathering_of};
 
     /// Before the first event.
-    pub(crate) fn new(alloc: Global, root: Root) -> Collector
+    pub fn new(alloc: Global, root: Root) -> Collector
         ensures { gathering_of result ≡ between root 0 }
     {
         Collector {
@@ -158,8 +157,13 @@ impl Collector {
         }
     }
 
-    /// Takes the start of an element.
-    pub(crate) fn start(&mut self, depth: u32, ns: &[u8], name: &[u8]) -> Result<(), WalkFault>
+    /// Takes the start of an element at this depth, with its namespace and its name. The root is at depth 1.
+    ///
+    /// # Errors
+    ///
+    /// WrongRoot where the root is another element than the one that is expected; Limit of Nodes and of Held
+    /// where a response passes them; and Memory.
+    pub fn start(&mut self, depth: u32, ns: &[u8], name: &[u8]) -> Result<(), WalkFault>
         ensures ok { IfOk result (λ _. (fault_of (gathering_of self.old) (Start depth ns.now name.now) ≡ None)
             × (gathering_of self.new ≡ next (gathering_of self.old) (Start depth ns.now name.now))) }
         ensures err { IfErr result (λ fault. (fault ≡ faults.Memory) ⊎ (fault_of (gathering_of self.old) (Start depth ns.now name.now) ≡ Some fault)) }
@@ -182,7 +186,7 @@ impl Collector {
     }
 
     /// Takes a byte of text.
-    pub(crate) fn byte(&mut self, byte: u8) -> Result<(), WalkFault>
+    fn byte(&mut self, byte: u8) -> Result<(), WalkFault>
         ensures ok { IfOk result (λ _. (fault_of (gathering_of self.old) (Char byte) ≡ None) × (gathering_of self.new ≡ next (gathering_of self.old) (Char byte))) }
         ensures err { IfErr result (λ fault. (fault ≡ faults.Memory) ⊎ (fault_of (gathering_of self.old) (Char byte) ≡ Some fault)) }
     {
@@ -212,8 +216,7 @@ impl Collector {
         let Some(innermost) = self.opened.pop() else {
             return Ok(false);
         };
-        self.gathered
-            .set_text(innermost.place, &innermost.text)?;
+        self.gathered.set_text(innermost.place, &innermost.text)?;
         if !self.opened.is_empty() {
             return Ok(false);
         }
@@ -223,8 +226,13 @@ impl Collector {
         }
     }
 
-    /// Takes the end of the innermost element. Where a response ends with it, lends that.
-    pub(crate) fn end<H: Handler>(&mut self, handler: &mut H) -> Result<Next, WalkFault>
+    /// Takes the end of the innermost open element. Where a response ends with it, lends that, and answers
+    /// what the handler answered.
+    ///
+    /// # Errors
+    ///
+    /// NoHref and BadStatus where a response ends that is not lent for it; and Memory.
+    pub fn end<H: Handler>(&mut self, handler: &mut H) -> Result<Next, WalkFault>
         ensures go { result ≡ Ok Next.Go → (end_fault (gathering_of self.old) self.old.opened ≡ None)
             × (gathering_of self.new ≡ with_end (gathering_of self.old) self.old.opened)
             × LentAll H.lends handler.old (ended_by (gathering_of self.old) self.old.opened) handler.new }
@@ -249,8 +257,12 @@ impl Collector {
         Ok(next)
     }
 
-    /// Takes text.
-    fn chars(&mut self, bytes: &[u8]) -> Result<(), WalkFault>
+    /// Takes text of the innermost open element. More of it may follow.
+    ///
+    /// # Errors
+    ///
+    /// Limit of Held with the last byte of the character by which a response passes it; and Memory.
+    pub fn chars(&mut self, bytes: &[u8]) -> Result<(), WalkFault>
         ensures ok { IfOk result (λ _. walk (gathering_of self.old) (chars_lem bytes.now) ≡ record { ended = []; outcome = Goes (gathering_of self.new) }) }
         ensures err { IfErr result (λ fault. (fault ≡ faults.Memory) ⊎ (walk (gathering_of self.old) (chars_lem bytes.now) ≡ record { ended = []; outcome = Fails fault })) }
     {
@@ -263,31 +275,5 @@ impl Collector {
             rest = others;
         }
         Ok(())
-    }
-
-    /// Takes the next event of the document. Where a response ends with it, lends that.
-    pub(crate) fn take<H: Handler>(
-        &mut self,
-        event: Event<'_>,
-        handler: &mut H,
-    ) -> Result<Next, WalkFault>
-        ensures go { result ≡ Ok Next.Go → ((walk (gathering_of self.old) (event_in event.entry)).outcome ≡ Goes (gathering_of self.new))
-            × LentAll H.lends handler.old (walk (gathering_of self.old) (event_in event.entry)).ended handler.new }
-        ensures stop { result ≡ Ok Next.Stop → ((walk (gathering_of self.old) (event_in event.entry)).outcome ≡ Goes (gathering_of self.new))
-            × LentToStop H.lends handler.old (walk (gathering_of self.old) (event_in event.entry)).ended handler.new }
-        ensures err { IfErr result (λ fault. (handler.new ≡ handler.old) × ((fault ≡ faults.Memory)
-            ⊎ (walk (gathering_of self.old) (event_in event.entry) ≡ record { ended = []; outcome = Fails fault }))) }
-    {
-        match event {
-            Event::Start { depth, ns, name } => match self.start(depth, ns, name) {
-                Ok(()) => Ok(Next::Go),
-                Err(fault) => Err(fault),
-            },
-            Event::Chars { bytes } => match self.chars(bytes) {
-                Ok(()) => Ok(Next::Go),
-                Err(fault) => Err(fault),
-            },
-            Event::End { depth: _ } => self.end(handler),
-        }
     }
 }

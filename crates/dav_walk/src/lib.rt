@@ -1,4 +1,5 @@
-//! A walker over a DAV document that lends one response after another: RFC 4918 section 14.24.
+//! The responses of a DAV document, one after another: a collector takes the events of the document and lends each response to a
+//! handler when it ends, and says what a response tells without memory. RFC 4918 section 14.24.
 #![tactic(auto)]
 
 mod code;
@@ -13,13 +14,15 @@ mod opened;
 mod props;
 mod reading;
 mod root;
-mod walker;
 
+pub use collector::Collector;
 pub use fault::WalkFault;
 pub use found::Found;
 pub use handler::{Handler, Next};
-pub use laws::all_given;
+pub use laws::{all_given, walked_are_responses};
 pub use node::{Node, Span};
 pub use props::{Prop, Props};
 pub use root::Root;
-pub use walker::Walk;
+
+#[cfg(test)]
+mod tests;

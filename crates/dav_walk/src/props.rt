@@ -64,13 +64,7 @@ fn context_in(is_prop: bool, context: Context) -> Context
 }
 
 /// Behind the start of a node that is so many levels below the response's own. The other nodes follow it.
-fn context_after(
-    level: u32,
-    node: &Node,
-    rest: &[Node],
-    text: &[u8],
-    context: Context,
-) -> Context
+fn context_after(level: u32, node: &Node, rest: &[Node], text: &[u8], context: Context) -> Context
     ensures { result ≡ context_after_lem level (item_of text.now node.now) (items_of rest.now text.now) context }
 {
     if level == 1 {
