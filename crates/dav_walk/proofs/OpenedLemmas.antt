@@ -1,6 +1,6 @@
 -- Whether some element is open.
-use Rattle.std.proofs.Common.{◌≡◌, ℕ, Bool, true, false, List, [], ◌∷◌, refl, sym, ap, ◌∙◌, length, arith}
-use Rattle.std.specs.Prelude.{not, fold, nat_eq, ◌==◌}
+use Rattle.std.proofs.Common.{◌≡◌, true, List, [], ◌∷◌, refl, sym, ap, ◌∙◌, length, arith}
+use Rattle.std.specs.Prelude.{not, fold, ◌==◌}
 use Rattle.dav_walk.specs.Gathering as gathering
 use Rattle.dav_walk.specs.Gathering.{is_open}
 use Rattle.dav_walk.specs.declared.opened.Opened.{Opened}

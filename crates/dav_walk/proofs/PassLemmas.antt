@@ -1,10 +1,10 @@
 -- A reader of properties goes past one node.
-use Rattle.std.proofs.Common.{◌≡◌, ℕ, ◌+◌, ◌-◌, ◌<◌, ◌≤◌, Bool, true, List, [], ◌∷◌, ◌++◌, refl, ap, sym, ◌∙◌, Some, length, length-drop, take, take_all, drop, get_or, add-one, drop-cons, arith}
+use Rattle.std.proofs.Common.{◌≡◌, ℕ, ◌+◌, ◌-◌, ◌<◌, Bool, true, List, [], ◌∷◌, ◌++◌, refl, ap, sym, ◌∙◌, Some, length, length-drop, take, take_all, drop, get_or, add-one, drop-cons, arith}
 use Rattle.std.proofs.lemmas.Option.{slice_get-get_or}
 use Rattle.std.specs.Prelude.{if◌then◌else◌}
 use Rattle.dav_walk.specs.declared.node.Node.{Node}
 use Rattle.dav_walk.specs.declared.props.Context.{Context}
-use Rattle.dav_walk.specs.declared.props.Context.TheVariants.{Aside, Propstat, Prop}
+use Rattle.dav_walk.specs.declared.props.Context.TheVariants.{Aside, Prop}
 use Rattle.dav_walk.specs.Reading.{Given, is_response, of_response, props}
 use Rattle.dav_walk.specs.Props.{Placed, placed, given_here, context_after, left_from}
 use Rattle.dav_walk.specs.View.{item_of, items_of}

@@ -1,9 +1,9 @@
 -- The elements in a row give the properties that their tree has.
-use Rattle.std.proofs.Common.{◌≡◌, ℕ, ◌+◌, ◌-◌, ◌<◌, ◌≤◌, Bool, true, false, List, [], ◌∷◌, ◌++◌, refl, ap, sym, ◌∙◌, Option, Some, None, eq-eqb, append_assoc, arith, ◌⊎◌, inl, inr}
-use Rattle.std.specs.Prelude.{nat_le, ◌==◌, cond, map, codes, filter, flat_map, if◌then◌else◌}
+use Rattle.std.proofs.Common.{◌≡◌, ℕ, ◌+◌, ◌-◌, ◌<◌, ◌≤◌, Bool, true, false, List, [], ◌∷◌, ◌++◌, refl, ap, sym, ◌∙◌, Option, Some, None, eq-eqb, append_assoc, arith, inl, inr}
+use Rattle.std.specs.Prelude.{◌==◌, cond, map, codes, filter, flat_map, if◌then◌else◌}
 use Rattle.std.proofs.lemmas.Bool.Decides.{nat_tests, leb_tells}
 use Rattle.dav_walk.specs.Tree.{Item, is_dav}
-use Rattle.dav_walk.specs.Reading.{Child, Given, children, children_of, named, given_by, of_prop, of_props, on_code, of_propstat, of_propstats, propstat_code}
+use Rattle.dav_walk.specs.Reading.{Child, Given, children, named, given_by, of_prop, of_props, on_code, of_propstat, of_propstats, propstat_code}
 use Rattle.dav_walk.specs.Props.{given_here, context_of, context_in, context_after, left_from}
 use Rattle.dav_walk.specs.declared.props.Context.{Context}
 use Rattle.dav_walk.specs.declared.props.Context.TheVariants.{Aside, Propstat, Prop}

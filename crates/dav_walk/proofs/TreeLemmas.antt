@@ -1,12 +1,10 @@
 -- The events of a tree give its responses.
-use Rattle.std.proofs.Common.{◌≡◌, ℕ, zero, suc, ◌+◌, ◌<◌, Bool, true, false, List, [], ◌∷◌, ◌++◌, refl, ap, sym, ◌∙◌, length, append_assoc, append-nil, subst, arith}
-use Rattle.std.specs.Prelude.{◌==◌, ◌&&◌, cond, codes, if◌then◌else◌}
-use Rattle.std.proofs.lemmas.Bool.Decides.{nat_tests}
+use Rattle.std.proofs.Common.{◌≡◌, ℕ, ◌+◌, ◌<◌, Bool, true, false, List, [], ◌∷◌, ◌++◌, refl, ap, sym, ◌∙◌, length, append_assoc, append-nil, subst, arith}
+use Rattle.std.specs.Prelude.{◌&&◌, cond, codes, if◌then◌else◌}
 use Rattle.dav_doc.specs.Document.{Forest, Nil, Chars, Element, Event, Start, Char, End, events}
 use Rattle.dav_walk.specs.declared.root.Root.{Root}
 use Rattle.dav_walk.specs.declared.root.Root.TheVariants.{Multistatus, Prop}
 use Rattle.dav_walk.specs.Tree.{Item, is_dav, direct, items, whole, among, responses}
-use Rattle.dav_walk.specs.Lending.{Response}
 use Rattle.dav_walk.specs.Gathering.{Opened, Gathering, between, begins, with_start, with_text, owed_after, next, ended}
 use Rattle.dav_walk.specs.Whole.{after, given, numbered}
 use Rattle.dav_walk.proofs.PropsLemmas.{differs}

@@ -1,9 +1,9 @@
 -- Walks and the responses of events.
-use Rattle.std.proofs.Common.{◌≡◌, ℕ, List, [], ◌∷◌, ◌++◌, refl, ap, sym, ◌∙◌, Option, Some, None}
+use Rattle.std.proofs.Common.{◌≡◌, List, [], ◌∷◌, ◌++◌, refl, ap, ◌∙◌, Option, Some, None}
 use Rattle.dav_doc.specs.Document.{Event}
 use Rattle.dav_walk.specs.declared.fault.WalkFault.{WalkFault}
 use Rattle.dav_walk.specs.Lending.{Response}
-use Rattle.dav_walk.specs.Gathering.{Gathering, Outcome, Goes, Fails, Walked, next, ended, fault_of, walk_by, walk}
+use Rattle.dav_walk.specs.Gathering.{Gathering, Goes, Walked, next, ended, fault_of, walk_by, walk}
 use Rattle.dav_walk.specs.Whole.{after, given}
 
 -- a walk that goes on ends all responses that the events give

@@ -1,6 +1,5 @@
 -- What a collector has gathered.
-use Rattle.std.specs.Prelude.{List, [], ◌∷◌, ◌++◌, ℕ}
-use Rattle.dav_walk.specs.Gathering.{Gathering, Opened}
+use Rattle.dav_walk.specs.Gathering.{Gathering}
 use Rattle.dav_walk.specs.declared.collector.Collector.{Collector}
 
 abbrev pub gathering_of : Collector → Gathering

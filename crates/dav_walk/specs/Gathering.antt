@@ -1,7 +1,6 @@
 -- Responses as they come: what is kept of the events so far, what each event gives, and where one is at fault.
 use Rattle.std.specs.Prelude.{ℕ, zero, suc, ◌+◌, Bool, true, false, not, ◌&&◌, ◌||◌, ◌==◌, nat_le, List, [], ◌∷◌, ◌++◌, length, Option, Some, None, codes, if◌then◌else◌}
 use Rattle.dav_doc.specs.Document.{Event, Start, Char, End}
-use Rattle.dav_text.specs.declared.which.Which.{Which}
 use Rattle.dav_text.specs.declared.which.Which.TheVariants.{Nodes, Held}
 use Rattle.dav_walk.specs.declared.root.Root.{Root}
 use Rattle.dav_walk.specs.declared.root.Root.TheVariants.{Multistatus, Prop}

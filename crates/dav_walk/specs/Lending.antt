@@ -1,5 +1,5 @@
 -- What a handler is lent, one after another.
-use Rattle.std.specs.Prelude.{◌≡◌, ℕ, List, [], ◌∷◌, ◌⊎◌}
+use Rattle.std.specs.Prelude.{◌≡◌, ℕ, List, [], ◌∷◌}
 use Rattle.dav_walk.specs.Tree.{Item}
 use Rattle.dav_walk.specs.declared.handler.Next.{Next}
 use Rattle.dav_walk.specs.declared.handler.Next.TheVariants.{Go, Stop}

@@ -1,8 +1,7 @@
 -- The properties that a reader of a response still has to give.
-use Rattle.std.specs.Prelude.{ℕ, ◌+◌, ◌-◌, ◌==◌, nat_le, Bool, true, false, List, [], ◌∷◌, ◌++◌, map, drop, slice_get, Option, Some, None, codes, if◌then◌else◌}
+use Rattle.std.specs.Prelude.{ℕ, ◌+◌, ◌-◌, ◌==◌, nat_le, Bool, true, false, List, [], ◌∷◌, ◌++◌, map, slice_get, Option, Some, None, codes, if◌then◌else◌}
 use Rattle.dav_walk.specs.Tree.{Item, is_dav}
 use Rattle.dav_walk.specs.Reading.{Given, propstat_code}
-use Rattle.dav_walk.specs.View.{items_of}
 use Rattle.dav_walk.specs.declared.node.Node.{Node}
 use Rattle.dav_walk.specs.declared.props.Context.{Context}
 use Rattle.dav_walk.specs.declared.props.Context.TheVariants.{Aside, Propstat, Prop}

@@ -1,5 +1,5 @@
 -- What a response says, read from its elements (RFC 4918, sections 14.24 and 14.22).
-use Rattle.std.specs.Prelude.{ℕ, ◌+◌, ◌*◌, ◌-◌, Bool, true, false, not, ◌&&◌, ◌==◌, nat_le, List, [], ◌∷◌, map, reverse, take, drop, length, Option, Some, None, is_some, option_map, bytes_eq, codes, find, filter, flat_map, if◌then◌else◌}
+use Rattle.std.specs.Prelude.{ℕ, ◌+◌, ◌*◌, ◌-◌, Bool, true, false, ◌&&◌, ◌==◌, nat_le, List, [], ◌∷◌, map, reverse, take, drop, Option, Some, None, is_some, option_map, bytes_eq, codes, find, filter, flat_map, if◌then◌else◌}
 use Rattle.std.specs.List.{list_all}
 use Rattle.dav_doc.specs.Bytes.{is_blank}
 use Rattle.dav_walk.specs.Tree.{Item, is_dav}

@@ -16,6 +16,7 @@ enum Say {
 use Say::{Close, Open, Other, Text};
 
 /// A handler that keeps what it is lent as text, and stops behind so many responses.
+#[derive(Drop)]
 struct Told {
     text: Vec<u8>,
     lent: u64,
@@ -59,7 +60,7 @@ impl Handler for Told {
     }
 }
 
-fn told(alloc: Global, most: u64) -> Told {
+fn told_so_far(alloc: Global, most: u64) -> Told {
     Told {
         text: Vec::new(alloc),
         lent: 0,
@@ -96,7 +97,7 @@ fn hand(collector: &mut Collector, events: &[Say], told: &mut Told) -> Result<Ne
 /// What a handler that stops behind so many responses is told of the events, and the fault.
 fn walked(alloc: Global, root: Root, events: &[Say], most: u64) -> (Told, Result<Next, WalkFault>) {
     let mut collector = Collector::new(alloc, root);
-    let mut told = told(alloc, most);
+    let mut told = told_so_far(alloc, most);
     let answer = hand(&mut collector, events, &mut told);
     (told, answer)
 }
@@ -171,6 +172,7 @@ fn a_handler_stops(rt: HostRuntime) -> Result<(), Fail> {
 }
 
 /// Events, what is told of them, and the fault.
+#[derive(Drop)]
 struct Case<'a> {
     root: Root,
     events: &'a [Say],
@@ -286,7 +288,7 @@ fn limits(rt: HostRuntime) -> Result<(), Fail> {
     collector.start(1, b"DAV:", b"prop")?;
     for _ in 1..4096 {
         collector.start(2, b"", b"")?;
-        assert_eq!(rt; collector.end(&mut told(rt.alloc(), 9))?, Next::Go);
+        assert_eq!(rt; collector.end(&mut told_so_far(rt.alloc(), 9))?, Next::Go);
     }
     let nodes = WalkFault::Limit {
         which: Which::Nodes,

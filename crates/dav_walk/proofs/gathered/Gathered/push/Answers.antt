@@ -1,4 +1,4 @@
-use Rattle.std.proofs.Common.{◌≡◌, ap, ◌∙◌, List, [], ◌∷◌, ◌++◌, length, refl}
+use Rattle.std.proofs.Common.{◌≡◌, ap, ◌∙◌, [], ◌∷◌, ◌++◌, length, refl}
 use Rattle.dav_walk.specs.declared.node.Node.{Node}
 use Rattle.dav_walk.specs.Tree.{Item}
 use Rattle.dav_walk.specs.View.{items_of}

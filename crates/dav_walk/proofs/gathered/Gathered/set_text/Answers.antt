@@ -1,4 +1,4 @@
-use Rattle.std.proofs.Common.{◌≡◌, ◌≤◌, ap, sym, ◌∙◌, length, set, get_or, arith}
+use Rattle.std.proofs.Common.{ap, sym, ◌∙◌, set, get_or, arith}
 use Rattle.dav_walk.specs.declared.node.Node.{Node}
 use Rattle.dav_walk.specs.View.{items_of}
 use Rattle.dav_walk.specs.Gathering.{with_text}
