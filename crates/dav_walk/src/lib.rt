@@ -1,0 +1,28 @@
+//! The responses of a DAV document, one after another: a collector takes the events of the document and lends each response to a
+//! handler when it ends, and says what a response tells without memory. RFC 4918 section 14.24.
+#![tactic(auto)]
+
+mod code;
+mod collector;
+mod fault;
+mod found;
+mod gathered;
+mod handler;
+mod laws;
+mod node;
+mod opened;
+mod props;
+mod reading;
+mod root;
+
+pub use collector::Collector;
+pub use fault::WalkFault;
+pub use found::Found;
+pub use handler::{Handler, Next};
+pub use laws::{all_given, walked_are_responses};
+pub use node::{Node, Span};
+pub use props::{Prop, Props};
+pub use root::Root;
+
+#[cfg(test)]
+mod tests;
