@@ -1,1 +1,2 @@
 pub mod CleanTags
+pub mod SeenLemmas
