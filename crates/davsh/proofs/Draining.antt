@@ -7,6 +7,7 @@ use Rattle.dav_edge.specs.Device.{Answer, Happened, DeviceLog, Grew, ByteMachine
 use Rattle.dav_edge.specs.Whole.{ReachesOn, DoesOn}
 use Rattle.dav_edge.proofs.Sending.{on_same}
 use Rattle.dav_text.specs.declared.memory.Memory.{Memory}
+use Rattle.dav_text.specs.declared.tag.Seen.TheVariants.{Absent}
 use Rattle.dav_desk.specs.Table.{Table, IsWithin, untaken}
 use Rattle.dav_desk.specs.After.{after, IsStep, HasMemory}
 use Rattle.dav_desk.specs.declared.answer.Answer.{Answer as DeskAnswer}
@@ -19,7 +20,8 @@ use Rattle.dav_desk.specs.declared.fault.DeskFault.{DeskFault}
 use Rattle.dav_desk.specs.declared.fault.DeskFault.TheVariants as faults
 use Rattle.dav_uri.specs.Target.{BaseParts}
 use Rattle.dav_desk.proofs.Laws.{refused_changes_nothing, take_answers, take_leaves_fewer, take_puts_in_flight, idle_changes_nothing, settle_answers, settle_is_not_refused, settle_leaves_no_more}
-use Rattle.davsh.specs.Exchange.{Heard, Uploads}
+use Rattle.davsh.specs.Exchange.{Uploaded, Uploads}
+use Rattle.davsh.specs.declared.came.Came.{Came}
 use Rattle.davsh.specs.Drain.{Drains, IsFlying, idle, memory, starved, turn, done_of}
 
 abbrev pub DrainMachine : Type 1
@@ -55,31 +57,31 @@ drains_idle a base t u answer step other =
 pub took_as : (t u : Table) (answer : DeskAnswer) (job : Job) → after t Take ≡ (u, Ok answer) → answer ≡ Took job → after t Take ≡ (u, Ok (Took job))
 took_as t u answer job step is = step ∙ ap (λ (x : DeskAnswer). let r : Table × Result DeskAnswer DeskFault = (u, Ok x) in r) is
 
-pub settled_as : (t u : Table) (number : ℕ) (done : Done) (came : Option ℕ) (answer : DeskAnswer) → done ≡ done_of came → after t (Settle number done) ≡ (u, Ok answer) → after t (Settle number (done_of came)) ≡ (u, Ok answer)
+pub settled_as : (t u : Table) (number : ℕ) (done : Done) (came : Option Came) (answer : DeskAnswer) → done ≡ done_of came → after t (Settle number done) ≡ (u, Ok answer) → after t (Settle number (done_of came)) ≡ (u, Ok answer)
 settled_as t u number done came answer is step = subst (λ (d : Done). after t (Settle number d) ≡ (u, Ok answer)) is step
 
 -- a job was taken, and there was want of memory while it was sent
-pub drains_starved : (a b : DeviceLog) (base : BaseParts) (t u : Table) (job : Job) (want : Memory) → after t Take ≡ (u, Ok (Took job)) → DoesOn a b (Uploads base job.path job.bytes) (Err want)
+pub drains_starved : (a b : DeviceLog) (base : BaseParts) (t u : Table) (job : Job) (want : Memory) → after t Take ≡ (u, Ok (Took job)) → DoesOn a b (Uploads base job.path Absent job.bytes) (Err want)
     → DoesOn a b (Drains base t) (false, u)
 drains_starved a b base t u job want step one = record {
   made = one.made;
   grew = one.grew;
   same = λ more run does.
-      let sent : Run (List Happened) (List Answer) Heard = run_with (Err want) (one.made ++ []) more in
+      let sent : Run (List Happened) (List Answer) Uploaded = run_with (Err want) (one.made ++ []) more in
       starved t (one_device.answered one.made more) (prepend one_device one.made run) u sent
       (record { job = job; want = want; takes = step; uploads = one.same more (run_with (Err want) [] more) refl; heard = refl })
       (ap (prepend one_device one.made) does);
 }
 
 -- a job was taken, sent and settled
-pub drains_turn : (a b : DeviceLog) (base : BaseParts) (t u v : Table) (job : Job) (came : Option ℕ) (answer : DeskAnswer) → after t Take ≡ (u, Ok (Took job)) → DoesOn a b (Uploads base job.path job.bytes) (Ok came)
+pub drains_turn : (a b : DeviceLog) (base : BaseParts) (t u v : Table) (job : Job) (came : Option Came) (answer : DeskAnswer) → after t Take ≡ (u, Ok (Took job)) → DoesOn a b (Uploads base job.path Absent job.bytes) (Ok came)
     → after u (Settle job.number (done_of came)) ≡ (v, Ok answer) → ReachesOn a b (Drains base t) (Drains base v)
 drains_turn a b base t u v job came answer step one settling = record {
   made = one.made;
   grew = one.grew;
   same = λ more run does.
       let fated = settle_answers u job.number (done_of came) v answer settling in
-      let sent : Run (List Happened) (List Answer) Heard = run_with (Ok came) (one.made ++ []) more in
+      let sent : Run (List Happened) (List Answer) Uploaded = run_with (Ok came) (one.made ++ []) more in
       turn t (one_device.answered one.made more) (prepend one_device one.made run) v sent run
       (record {
         taken = u;

@@ -1,13 +1,16 @@
 -- What the drain does to the files of the queue: each stays queued, or is lost, or it was sent whole and the server
 -- took it.
-use Rattle.std.proofs.Common.{◌≡◌, ◌⊎◌, inl, inr, ℕ, List, [], ◌∷◌, ◌++◌, Option, Some, None, Ok, Err, Bool, true, false, if◌then◌else◌, nat_eq, Contains, lit<, refl, sym, ◌∙◌, ap, subst}
+use Rattle.std.proofs.Common.{◌≡◌, ◌⊎◌, inl, inr, ℕ, List, [], ◌∷◌, ◌++◌, Option, Some, None, Ok, Err, Bool, true, false, if◌then◌else◌, nat_eq, Contains, lit<, refl, sym, ◌∙◌, ap, subst, append-nil}
 use Rattle.std.proofs.lemmas.List.Elements.{Contains-append_left, Contains-append_right}
-use Rattle.dav_machine.specs.Machine.{Run, run_with}
+use Rattle.dav_machine.specs.Devices.{one_device}
+use Rattle.dav_machine.specs.Machine.{Run, run_with, prepend}
 use Rattle.dav_edge.specs.Device.{Answer, Happened}
 use Rattle.dav_edge.specs.Connections.{Connection, connection, Connections, none_yet, all_of, after_calls}
 use Rattle.dav_edge.proofs.Connecting.{after_calls-append, begins_and_last, ended_after_calls}
 use Rattle.dav_text.specs.Path.{PathParts}
+use Rattle.dav_text.specs.declared.tag.Seen.TheVariants.{Absent}
 use Rattle.dav_frame.specs.Framing.{Message}
+use Rattle.dav_frame.specs.declared.reader.Reply.{Reply}
 use Rattle.dav_desk.specs.Table.{Table, IsWithin, IsQueued, IsLost, IsInFlight}
 use Rattle.dav_desk.specs.Kept.{HoldsFile, lost_files_of}
 use Rattle.dav_desk.specs.After.{after}
@@ -18,15 +21,21 @@ use Rattle.dav_desk.specs.declared.answer.Job.{Job}
 use Rattle.dav_desk.specs.declared.ask.Ask.TheVariants.{Settle}
 use Rattle.dav_desk.specs.declared.ask.Done.{Done}
 use Rattle.dav_desk.specs.declared.ask.Done.TheVariants as done
+use Rattle.dav_verbs.specs.declared.outcome.Outcome.TheVariants as outcomes
 use Rattle.dav_uri.specs.Target.{BaseParts}
 use Rattle.dav_desk.proofs.Laws.{take_is_within, take_keeps_queued, take_loses_nothing, take_puts_in_flight, settle_is_within, settle_keeps_lost, sent_keeps_others, again_ends_flight_alone, refused_keeps_all}
-use Rattle.davsh.specs.Exchange.{Heard, HasReply, Uploads, sends, memory as no_memory, put_text, is_success, asks_again}
-use Rattle.davsh.specs.Drain.{Drains, Turn, Starved, idle, memory, starved, turn, done_of}
+use Rattle.dav_verbs.specs.Outcome.{is_success, may_pass}
+use Rattle.davsh.specs.declared.came.Came.{Came}
+use Rattle.davsh.specs.Exchange.{Heard, Uploaded, IsToldOf, HasReply, Exchanges, Uploads, sends, memory as no_memory, new_text}
+use Rattle.davsh.specs.Drain.{Drains, Turn, Starved, idle, memory, starved, turn, done_by, done_of}
 use Rattle.davsh.specs.Kept.{WasPut}
 use Rattle.davsh.proofs.Putting.{Answered, exchange_replied}
 
 abbrev HeardRun : Type 0
 HeardRun = Run (List Happened) (List Answer) Heard
+
+abbrev UploadRun : Type 0
+UploadRun = Run (List Happened) (List Answer) Uploaded
 
 abbrev DrainRun : Type 0
 DrainRun = Run (List Happened) (List Answer) (Bool × Table)
@@ -39,7 +48,7 @@ pub record Put1 (base : BaseParts) (path : PathParts) (bytes : List ℕ) (events
   pub to_port : connection.port ≡ base.port
   pub named : PathParts
   pub same : named.segments ≡ path.segments
-  pub sent : connection.sent ≡ put_text base named bytes
+  pub sent : connection.sent ≡ new_text base named bytes
   pub reply : Message
   pub received : HasReply connection.received reply
   pub success : is_success reply.head.status ≡ true
@@ -76,10 +85,10 @@ put_later base path bytes es fs one = record {
 }
 
 -- a reply of success to the file's request
-put_answered : (base : BaseParts) (path : PathParts) (bytes : List ℕ) (named : PathParts) (status : ℕ) (events : List Happened) → named.segments ≡ path.segments
-    → Answered base (put_text base named bytes) status events → is_success status ≡ true → Put1 base path bytes events
-put_answered base path bytes named status events same answered success =
-    let c = connection base.host base.port (put_text base named bytes) answered.received in record {
+put_answered : (base : BaseParts) (path : PathParts) (bytes : List ℕ) (named : PathParts) (told : Reply) (events : List Happened) → named.segments ≡ path.segments
+    → Answered base (new_text base named bytes) told events → is_success told.status ≡ true → Put1 base path bytes events
+put_answered base path bytes named told events same answered success =
+    let c = connection base.host base.port (new_text base named bytes) answered.received in record {
       connection = c;
       ended = λ cs. subst (λ (k : Connections). Contains k.ended c) (sym (answered.makes cs)) (Contains-append_right (all_of cs) (c ∷ []) c (0, lit< tt, refl));
       to_host = refl;
@@ -114,7 +123,7 @@ put_as base from path sent bytes events is one = record {
   to_port = one.to_port;
   named = one.named;
   same = one.same ∙ is.0;
-  sent = one.sent ∙ ap (put_text base one.named) is.1;
+  sent = one.sent ∙ ap (new_text base one.named) is.1;
   reply = one.reply;
   received = one.received;
   success = one.success;
@@ -143,23 +152,56 @@ settled_by base taken now job a events d within flight settles put = record {
           | inr gone ↦ inr (inl gone)
         ]
 
-success_by : (login success again : Bool) → (if login then done.Again else (if success then done.Sent else (if again then done.Again else done.Refused))) ≡ done.Sent → success ≡ true
+success_by : (login success again : Bool) → (if login then done.Again else done_by (if success then outcomes.Sent else (if again then outcomes.Again else outcomes.Refused))) ≡ done.Sent → success ≡ true
 success_by true success again is = cc
 success_by false true again is = refl
 success_by false false true is = cc
 success_by false false false is = cc
 
-put_by : (base : BaseParts) (path : PathParts) (bytes : List ℕ) (answers : List Answer) (sent : HeardRun) (came : Option ℕ) → Uploads base path bytes answers sent → sent.result ≡ Ok came → done_of came ≡ done.Sent → Put1 base path bytes sent.made
-put_by base path bytes answers sent None (sends exchange) heard is = cc
-put_by base path bytes answers sent (Some status) (sends exchange) heard is =
-    put_answered base path bytes path status sent.made refl (exchange_replied base (put_text base path bytes) status answers sent exchange heard) (success_by (nat_eq 401 status) (is_success status) (asks_again status) is)
+sent_is_success : (came : Came) → done_of (Some came) ≡ done.Sent → is_success came.status ≡ true
+sent_is_success came is = success_by (nat_eq 401 came.status) (is_success came.status) (may_pass came.status) is
+
+abbrev no_came : Uploaded
+no_came = Ok None
+
+abbrev told_came : Option Came → Uploaded
+told_came came = Ok came
+
+none_is_not_sent : (came : Option Came) → no_came ≡ told_came came → done_of came ≡ done.Sent → ⊥
+none_is_not_sent None none sent = cc
+none_is_not_sent (Some came) none sent = cc
+
+one_came : (one came : Came) → told_came (Some one) ≡ told_came (Some came) → one ≡ came
+one_came one came same = cc
+
+-- the request went whole and a reply of success came, where what was heard says so
+put_heard : (base : BaseParts) (path : PathParts) (bytes : List ℕ) (answers : List Answer) (run : HeardRun) (heard : Heard) (told : Uploaded) (came : Option Came)
+    → Exchanges base (new_text base path bytes) answers run → run.result ≡ heard → IsToldOf Absent heard told → told ≡ Ok came → done_of came ≡ done.Sent → Put1 base path bytes run.made
+put_heard base path bytes answers run (Err want) told came exchange hears is heard sent =
+    let h : Err want ≡ Ok came = sym is ∙ heard in cc
+put_heard base path bytes answers run (Ok None) told came exchange hears is heard sent =
+    let none : no_came ≡ told_came came = sym is ∙ heard in
+    absurd (none_is_not_sent came none sent)
+put_heard base path bytes answers run (Ok (Some reply)) told None exchange hears (c, of, is) heard sent = cc
+put_heard base path bytes answers run (Ok (Some reply)) told (Some came) exchange hears (c, of, is) heard sent =
+    let one : c ≡ came = one_came c came (sym is ∙ heard) in
+    let status : came.status ≡ reply.status = ap (λ (x : Came). x.status) (sym one) ∙ of.status in
+    put_answered base path bytes path reply run.made refl (exchange_replied base (new_text base path bytes) reply answers run exchange hears)
+    (ap is_success (sym status) ∙ sent_is_success came sent)
+
+put_by : (base : BaseParts) (path : PathParts) (bytes : List ℕ) (answers : List Answer) (sent : UploadRun) (came : Option Came) → Uploads base path Absent bytes answers sent → sent.result ≡ Ok came → done_of came ≡ done.Sent → Put1 base path bytes sent.made
+put_by base path bytes answers sent came (sends does) heard is =
+    let whole : sent ≡ run_with does.goes_on.told (does.before.made ++ []) does.before.left = does.whole ∙ ap (prepend one_device does.before.made) does.goes_on.gives in
+    let told : does.goes_on.told ≡ Ok came = sym (ap (λ (r : UploadRun). r.result) whole) ∙ heard in
+    let made : sent.made ≡ does.before.made = ap (λ (r : UploadRun). r.made) whole ∙ append-nil does.before.made in
+    subst (Put1 base path bytes) (sym made) (put_heard base path bytes answers does.before does.before.result does.goes_on.told came does.begins refl does.goes_on.is told is)
 put_by base path bytes answers sent came (no_memory want gives) heard is =
-    let h : Err want ≡ Ok came = sym (ap (λ (r : HeardRun). r.result) gives) ∙ heard in cc
+    let h : Err want ≡ Ok came = sym (ap (λ (r : UploadRun). r.result) gives) ∙ heard in cc
 
 lost_as_before : (before now : Table) → now.lost ≡ before.lost → (path : PathParts) (bytes : List ℕ) → IsLost before path bytes → IsLost now path bytes
 lost_as_before before now is path bytes gone = subst (λ (l : List LostFile). HoldsFile (lost_files_of l) path bytes) (sym is) gone
 
-empties_turn : (base : BaseParts) (before now : Table) (answers : List Answer) (sent : HeardRun) → IsWithin before → Turn base before answers now sent → Empties base before now sent.made
+empties_turn : (base : BaseParts) (before now : Table) (answers : List Answer) (sent : UploadRun) → IsWithin before → Turn base before answers now sent → Empties base before now sent.made
 empties_turn base before now answers sent within t =
     let job = t.job in
     let settled = settled_by base t.taken now job (Settled t.fated) sent.made (done_of t.came) (take_is_within before t.taken job within t.takes)
@@ -185,7 +227,7 @@ empties_then base a b c es fs one two = record {
   ];
 }
 
-empties_starved : (base : BaseParts) (before now : Table) (answers : List Answer) (sent : HeardRun) → IsWithin before → Starved base before answers now sent → Empties base before now sent.made
+empties_starved : (base : BaseParts) (before now : Table) (answers : List Answer) (sent : UploadRun) → IsWithin before → Starved base before answers now sent → Empties base before now sent.made
 empties_starved base before now answers sent within s = record {
   within = take_is_within before now s.job within s.takes;
   lost = lost_as_before before now (take_loses_nothing before now s.job s.takes);

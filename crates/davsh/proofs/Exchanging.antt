@@ -1,6 +1,7 @@
 -- What each call does to the machines of an exchange.
-use Rattle.std.proofs.Common.{◌≡◌, ◌≢◌, ◌<◌, ◌≤◌, inl, inr, ℕ, List, [], ◌∷◌, ◌++◌, length, take, drop, Option, ◌⊎◌, Some, None, Ok, Err, true, false, sym, subst, arith, append_assoc, append-nil, length-take}
+use Rattle.std.proofs.Common.{◌≡◌, ◌≢◌, ◌<◌, ◌≤◌, ◌==◌, inl, inr, ℕ, List, [], ◌∷◌, ◌++◌, length, take, drop, Option, ◌⊎◌, Some, None, Ok, Err, Bool, true, false, refl, sym, ◌∙◌, ap, subst, arith, append_assoc, append-nil, length-take, length-drop}
 use Rattle.std.proofs.lemmas.List.{drop_all}
+use Rattle.std.proofs.lemmas.Bool.Decides.{nat_tests}
 use Rattle.dav_machine.specs.Devices.{one_device}
 use Rattle.dav_machine.specs.Machine.{Run, give, and_then}
 use Rattle.dav_machine.proofs.Reaching.{reaches_next, reaches_as, as_reaches}
@@ -11,13 +12,15 @@ use Rattle.dav_edge.proofs.Sending.{on_same, on_then, on_call}
 use Rattle.dav_text.specs.declared.memory.Memory.{Memory}
 use Rattle.dav_text.specs.declared.method.Method.TheVariants.{Put}
 use Rattle.dav_text.specs.Path.{PathParts}
+use Rattle.dav_text.specs.declared.tag.Seen.{Seen}
 use Rattle.dav_frame.specs.declared.fault.FrameFault.{FrameFault}
 use Rattle.dav_frame.specs.declared.fault.FrameFault.TheVariants as faults
 use Rattle.dav_frame.specs.declared.phase.Phase.{Phase}
+use Rattle.dav_frame.specs.declared.reader.Reply.{Reply}
 use Rattle.dav_frame.specs.Framing.{Message, Outcome, Framing, Gives as GivesReply, Closes, Faults, Short}
 use Rattle.dav_uri.specs.Target.{BaseParts}
-use Rattle.dav_frame.specs.Reading.{FromPhase, Leads, Waits}
-use Rattle.davsh.specs.Exchange.{Heard, IsHeardOf, StaysOpen, Judged, whole, broken, short, memory, Ended, closed, cut, Hears, hears_if, Talks, Shuts, Exchanges, Uploads, put_text}
+use Rattle.dav_frame.specs.Reading.{FromPhase, Leads, Waits, reply_of}
+use Rattle.davsh.specs.Exchange.{Heard, Uploaded, IsHeardOf, IsToldOf, Tells, StaysOpen, is_end, Judged, whole, broken, short, memory, Ended, closed, cut, Hears, hears_if, Talks, Shuts, Exchanges, Uploads, put_text}
 use Rattle.davsh.specs.Exchange.{sends as sends_file, memory as no_memory}
 
 -- a reader that began with so much of a stream
@@ -73,10 +76,10 @@ hears_short a b so_far buf room n is some fits grew framing =
     hears_piece a b so_far buf room n (Hears (so_far ++ take n buf)) is some fits grew (λ left run does. short framing does)
 
 pub hears_whole : (a b : DeviceLog) (so_far buf : List ℕ) (room n : ℕ) (reply : Message) (rest : List ℕ) (heard : Heard) → room ≡ 4096 → (n ≡ 0 → ⊥) → n ≤ length buf → Grew a b (received room buf (Ok n) ∷ [])
-    → Framing Put (so_far ++ take n buf) (GivesReply reply rest) → heard ≡ Ok (Some reply.head.status) → DoesOn a b (Hears so_far) heard
+    → Framing Put (so_far ++ take n buf) (GivesReply reply rest) → heard ≡ Ok (Some (reply_of reply (is_end rest))) → DoesOn a b (Hears so_far) heard
 hears_whole a b so_far buf room n reply rest heard is some fits grew framing gives =
     subst (λ (h : Heard). DoesOn a b (Hears so_far) h) (sym gives)
-    (hears_piece a b so_far buf room n (give one_device (Ok (Some reply.head.status))) is some fits grew (λ left run does. whole reply rest framing does))
+    (hears_piece a b so_far buf room n (give one_device (Ok (Some (reply_of reply (is_end rest))))) is some fits grew (λ left run does. whole reply rest framing does))
 
 pub hears_broken : (a b : DeviceLog) (so_far buf : List ℕ) (room n : ℕ) (fault : FrameFault) → room ≡ 4096 → (n ≡ 0 → ⊥) → n ≤ length buf → Grew a b (received room buf (Ok n) ∷ [])
     → Framing Put (so_far ++ take n buf) (Faults fault) → DoesOn a b (Hears so_far) (Ok None)
@@ -103,24 +106,39 @@ unfolding Hears
 hears_nothing a b so_far heard grew ends =
     on_call a b (Hears so_far) (give one_device heard) (happened (Receive 4096) (Gives [])) grew (λ more run does. record { rest = does.rest; does = ends more does.rest does.does; is = does.is })
 
--- what the reader answers at the connection's end
-abbrev pub IsEnded : Phase → Option ℕ → Type 0
-IsEnded phase status =
-    ((reply : Message) × FromPhase phase [] (Closes reply) × (status ≡ Some reply.head.status)) ⊎ (FromPhase phase [] Short × (status ≡ None))
+-- no byte follows where the piece was taken whole
+end_of_piece : (piece rest : List ℕ) (used : ℕ) → used ≤ length piece → drop used piece ≡ rest → (used == length piece) ≡ is_end rest
+end_of_piece piece [] used fits is =
+    let none : length (drop used piece) ≡ 0 = ap length is in
+    let all : used ≡ length piece = omega (arith, length-drop {A = ℕ}) in grind (arith, nat_tests)
+end_of_piece piece (b ∷ rest) used fits is =
+    let some : length (drop used piece) ≡ length (b ∷ rest) = ap length is in
+    let less : used < length piece = omega (arith, length-drop {A = ℕ}) in grind (arith, nat_tests)
 
-ended_so : (so_far : List ℕ) (phase : Phase) (status : Option ℕ) → ReadsFrom so_far phase → IsEnded phase status
-    → (left : List Answer) (run : Run (List Happened) (List Answer) Heard) → give one_device (Ok status) left run → Ended so_far left run
-ended_so so_far phase status from (inl (reply, here, is)) left run gives =
-    closed reply (reads_here so_far phase (Closes reply) from here) (subst (λ (o : Option ℕ). give one_device (Ok o) left run) is gives)
-ended_so so_far phase status from (inr (here, is)) left run gives =
-    cut (reads_here so_far phase Short from here) (subst (λ (o : Option ℕ). give one_device (Ok o) left run) is gives)
+-- the reply that was read, whose last byte this piece holds
+pub reply_in : (piece : List ℕ) (used : ℕ) (alone : Bool) (message : Message) (heard : Reply) → used ≤ length piece → alone ≡ (used == length piece) → heard ≡ reply_of message alone
+    → heard ≡ reply_of message (is_end (drop used piece))
+reply_in piece used alone message heard fits is read =
+    read ∙ ap (reply_of message) (is ∙ end_of_piece piece (drop used piece) used fits refl)
+
+-- what the reader answers at the connection's end
+abbrev pub IsEnded : Phase → Option Reply → Type 0
+IsEnded phase heard =
+    ((reply : Message) × FromPhase phase [] (Closes reply) × (heard ≡ Some (reply_of reply false))) ⊎ (FromPhase phase [] Short × (heard ≡ None))
+
+ended_so : (so_far : List ℕ) (phase : Phase) (heard : Option Reply) → ReadsFrom so_far phase → IsEnded phase heard
+    → (left : List Answer) (run : Run (List Happened) (List Answer) Heard) → give one_device (Ok heard) left run → Ended so_far left run
+ended_so so_far phase heard from (inl (reply, here, is)) left run gives =
+    closed reply (reads_here so_far phase (Closes reply) from here) (subst (λ (o : Option Reply). give one_device (Ok o) left run) is gives)
+ended_so so_far phase heard from (inr (here, is)) left run gives =
+    cut (reads_here so_far phase Short from here) (subst (λ (o : Option Reply). give one_device (Ok o) left run) is gives)
 
 -- the connection came to its end
-pub hears_end : (a b : DeviceLog) (so_far buf : List ℕ) (room n : ℕ) (phase : Phase) (status : Option ℕ) → room ≡ 4096 → n ≡ 0 → Grew a b (received room buf (Ok n) ∷ []) → ReadsFrom so_far phase → IsEnded phase status
-    → DoesOn a b (Hears so_far) (Ok status)
-hears_end a b so_far buf room n phase status is none grew from ends =
-    hears_nothing a b so_far (Ok status) (subst (λ (k : ℕ). Grew a b (happened (Receive 4096) (Gives (take k buf)) ∷ [])) none (subst (λ (r : ℕ). Grew a b (happened (Receive r) (Gives (take n buf)) ∷ [])) is grew))
-    (ended_so so_far phase status from ends)
+pub hears_end : (a b : DeviceLog) (so_far buf : List ℕ) (room n : ℕ) (phase : Phase) (heard : Option Reply) → room ≡ 4096 → n ≡ 0 → Grew a b (received room buf (Ok n) ∷ []) → ReadsFrom so_far phase → IsEnded phase heard
+    → DoesOn a b (Hears so_far) (Ok heard)
+hears_end a b so_far buf room n phase heard is none grew from ends =
+    hears_nothing a b so_far (Ok heard) (subst (λ (k : ℕ). Grew a b (happened (Receive 4096) (Gives (take k buf)) ∷ [])) none (subst (λ (r : ℕ). Grew a b (happened (Receive r) (Gives (take n buf)) ∷ [])) is grew))
+    (ended_so so_far phase heard from ends)
 
 pub hears_failed : (a b : DeviceLog) (so_far buf : List ℕ) (room : ℕ) (e : Failed) → room ≡ 4096 → Grew a b (received room buf (Err e) ∷ []) → DoesOn a b (Hears so_far) (Ok None)
 unfolding Hears
@@ -154,11 +172,20 @@ exchanges_failed a b base text host port e to_host to_port connected_ =
     subst (λ (h : List ℕ). Grew a b (connected h base.port (Err e) ∷ [])) to_host (subst (λ (p : ℕ). Grew a b (connected host p (Err e) ∷ [])) to_port connected_) in
     on_call a b (Exchanges base text) (give one_device (Ok None)) (happened (Connect base.host base.port) Fails) connecting (λ more run does. does)
 
-pub uploads_sent : (a b : DeviceLog) (base : BaseParts) (text : List ℕ) (path : PathParts) (bytes : List ℕ) (heard : Heard) → text ≡ put_text base path bytes → DoesOn a b (Exchanges base text) heard → DoesOn a b (Uploads base path bytes) heard
-uploads_sent a b base text path bytes heard is one =
-    as_reaches one_device (Grew a b) (Exchanges base (put_text base path bytes)) (give one_device heard) (Uploads base path bytes) (λ answers run does. sends_file does)
-    (subst (λ (t : List ℕ). DoesOn a b (Exchanges base t) heard) is one)
+tells : (a : DeviceLog) (seen : Seen) (heard : Heard) (told : Uploaded) → IsToldOf seen heard told → DoesOn a a (Tells seen heard) told
+tells a seen heard told is =
+    reaches_as one_device (Grew a a) (Tells seen heard) (give one_device told) (Tells seen heard) (λ answers run does. record { told = told; is = is; gives = does }) (on_same a (Tells seen heard))
 
-pub uploads_starved : (a : DeviceLog) (base : BaseParts) (path : PathParts) (bytes : List ℕ) (want : Memory) → DoesOn a a (Uploads base path bytes) (Err want)
-uploads_starved a base path bytes want =
-    reaches_as one_device (Grew a a) (Uploads base path bytes) (give one_device (Err want)) (Uploads base path bytes) (λ answers run does. no_memory want does) (on_same a (Uploads base path bytes))
+pub uploads_sent : (a b : DeviceLog) (base : BaseParts) (text : List ℕ) (path : PathParts) (seen : Seen) (bytes : List ℕ) (heard : Heard) (told : Uploaded) → text ≡ put_text base path seen bytes → DoesOn a b (Exchanges base text) heard → IsToldOf seen heard told
+    → DoesOn a b (Uploads base path seen bytes) told
+uploads_sent a b base text path seen bytes heard told is one here =
+    let exchanging : DoesOn a b (Exchanges base (put_text base path seen bytes)) heard = subst (λ (t : List ℕ). DoesOn a b (Exchanges base t) heard) is one in
+    let both = and_then one_device (Exchanges base (put_text base path seen bytes)) (Tells seen) in
+    on_then a b b (Uploads base path seen bytes) (Tells seen heard) (give one_device told)
+    (as_reaches one_device (Grew a b) both (Tells seen heard) (Uploads base path seen bytes) (λ answers run does. sends_file does)
+    (reaches_next one_device (Grew a b) (Exchanges base (put_text base path seen bytes)) heard (Tells seen) exchanging))
+    (tells b seen heard told here)
+
+pub uploads_starved : (a : DeviceLog) (base : BaseParts) (path : PathParts) (seen : Seen) (bytes : List ℕ) (want : Memory) → DoesOn a a (Uploads base path seen bytes) (Err want)
+uploads_starved a base path seen bytes want =
+    reaches_as one_device (Grew a a) (Uploads base path seen bytes) (give one_device (Err want)) (Uploads base path seen bytes) (λ answers run does. no_memory want does) (on_same a (Uploads base path seen bytes))

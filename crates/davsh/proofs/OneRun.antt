@@ -10,8 +10,12 @@ use Rattle.dav_text.specs.Path.{PathParts}
 use Rattle.dav_text.specs.Reading.{top_path}
 use Rattle.dav_text.specs.declared.memory.Memory.{Memory}
 use Rattle.dav_text.specs.declared.method.Method.TheVariants.{Put}
+use Rattle.dav_text.specs.declared.tag.Seen.{Seen}
+use Rattle.dav_text.specs.declared.tag.Seen.TheVariants.{Absent}
 use Rattle.dav_frame.specs.Framing.{Message, Framing, Gives as GivesReply, Closes as ClosesReply, Faults, Short}
 use Rattle.dav_frame.specs.declared.fault.FrameFault.{FrameFault}
+use Rattle.dav_frame.specs.declared.reader.Reply.{Reply}
+use Rattle.dav_frame.specs.Reading.{reply_of}
 use Rattle.dav_frame.proofs.OutcomeLemmas.{unique}
 use Rattle.dav_desk.specs.Table.{Table}
 use Rattle.dav_desk.specs.After.{after, Stepped}
@@ -27,7 +31,9 @@ use Rattle.davsh.specs.declared.stop.Stop.TheVariants.{End, Input, Output}
 use Rattle.davsh.specs.declared.ended.Status.TheVariants as status
 use Rattle.davsh.specs.Line.{without_return, IsPut, IsNoPut}
 use Rattle.davsh.specs.Shell.{State, state, fresh_state, counted, faulted, starved, closed_line, syntax_line, limit_line, Answered, nothing, syntax, closed, limit, memory, Carries, goes_on, AtEnd, Shell}
-use Rattle.davsh.specs.Exchange.{Heard, StaysOpen, Judged, whole, broken, short, memory as no_memory, Ended, closed, cut, Hears, hears_if, Talks, Shuts, Exchanges, Uploads, sends, memory as not_sent}
+use Rattle.dav_verbs.proofs.SeenLemmas.{same_seen}
+use Rattle.davsh.specs.declared.came.Came.{Came}
+use Rattle.davsh.specs.Exchange.{Heard, Uploaded, IsCameOf, IsToldOf, Tells, put_text, is_end, StaysOpen, Judged, whole, broken, short, memory as no_memory, Ended, closed, cut, Hears, hears_if, Talks, Shuts, Exchanges, Uploads, sends, memory as not_sent}
 use Rattle.davsh.specs.Drain.{Drains, Turn, idle, memory as drain_memory, starved as drain_starved, turn, done_of}
 use Rattle.davsh.specs.Run.{Answers, both, the_sink, the_wire, Ending, ending, with_table, without_memory, RunMachine, Says, words_end, input_end, memory_end, Starves, closing_status, left_text, Closes, tells, memory as left_memory, after_drain, after_shell, RunsOn, Runs, refused, unread, on}
 use Rattle.davsh.specs.Kept.{Told, Walks}
@@ -243,7 +249,7 @@ one_ended : (so_far : List ℕ) (left : List Answer) (r q : HeardRun) → Ended 
 one_ended so_far left r q (closed reply framing gives) (closed other too same) =
     let o : ClosesReply reply ≡ ClosesReply other = unique Put so_far (ClosesReply reply) (ClosesReply other) framing too in
     let replies : reply ≡ other = cc in
-    gives ∙ ap (λ (x : Message). let run : HeardRun = run_with (Ok (Some x.head.status)) [] left in run) replies ∙ sym same
+    gives ∙ ap (λ (x : Message). let run : HeardRun = run_with (Ok (Some (reply_of x false))) [] left in run) replies ∙ sym same
 one_ended so_far left r q (closed reply framing gives) (cut too same) =
     let o : ClosesReply reply ≡ Short = unique Put so_far (ClosesReply reply) Short framing too in cc
 one_ended so_far left r q (cut framing gives) (closed other too same) =
@@ -255,7 +261,9 @@ one_judged : (so_far : List ℕ) (GoesOn : HeardRun → Type 0) (left : List Ans
 one_judged so_far GoesOn left r q later (whole reply rest framing gives) (whole other more too same) fr fq =
     let o : GivesReply reply rest ≡ GivesReply other more = unique Put so_far (GivesReply reply rest) (GivesReply other more) framing too in
     let replies : reply ≡ other = cc in
-    gives ∙ ap (λ (x : Message). let run : HeardRun = run_with (Ok (Some x.head.status)) [] left in run) replies ∙ sym same
+    let rests : rest ≡ more = cc in
+    gives ∙ ap (λ (x : Message). let run : HeardRun = run_with (Ok (Some (reply_of x (is_end rest)))) [] left in run) replies
+    ∙ ap (λ (l : List ℕ). let run : HeardRun = run_with (Ok (Some (reply_of other (is_end l)))) [] left in run) rests ∙ sym same
 one_judged so_far GoesOn left r q later (whole reply rest framing gives) (broken fault too same) fr fq =
     let o : GivesReply reply rest ≡ Faults fault = unique Put so_far (GivesReply reply rest) (Faults fault) framing too in cc
 one_judged so_far GoesOn left r q later (whole reply rest framing gives) (short too goes) fr fq =
@@ -317,10 +325,46 @@ one_exchanges base text (Goes ∷ more) r q d e fr fq =
     one_calls _ (and_then one_device (Talks text) Shuts more) HeardFed r q d e fr fq
     (one_then one_device (Talks text) Shuts HeardFed HeardFed (one_talks text) one_shuts shuts_fed more)
 
-one_uploads : (base : BaseParts) (path : PathParts) (bytes : List ℕ) → One (Uploads base path bytes) HeardFed
-one_uploads base path bytes answers r q (sends d) (sends e) fr fq = one_exchanges base _ answers r q d e fr fq
-one_uploads base path bytes answers r q (sends d) (not_sent want gives) fr fq = starved_heard want answers q (r ≡ q) gives fq
-one_uploads base path bytes answers r q (not_sent want gives) e fr fq = starved_heard want answers r (r ≡ q) gives fr
+-- an upload
+abbrev UploadFed : Uploaded → Type 0
+UploadFed (Ok came) = Unit {0}
+UploadFed (Err want) = ⊥
+
+abbrev UploadRun : Type 0
+UploadRun = Run (List Happened) (List Answer) Uploaded
+
+starved_upload : (want : Memory) (left : List Answer) (r : UploadRun) (P : Type 0) → give one_device (Err want) left r → UploadFed r.result → P
+starved_upload want left r P gives fed = absurd (subst (λ (run : UploadRun). UploadFed run.result) gives fed)
+
+abbrev came_with : ℕ → Seen → ℕ → Came
+came_with status seen waits = record { status = status; seen = seen; retry_after = waits }
+
+one_kept : (seen : Seen) (reply : Reply) (one other : Came) → IsCameOf seen reply one → IsCameOf seen reply other → one ≡ other
+one_kept seen reply one other of too =
+    ap (λ (status : ℕ). came_with status one.seen one.retry_after) (of.status ∙ sym too.status)
+    ∙ ap (λ (known : Seen). came_with other.status known one.retry_after) (same_seen seen Put reply.status reply.fields one.seen other.seen of.known too.known)
+    ∙ ap (λ (waits : ℕ). came_with other.status other.seen waits) (of.waits ∙ sym too.waits)
+
+one_told : (seen : Seen) (heard : Heard) (one other : Uploaded) → IsToldOf seen heard one → IsToldOf seen heard other → one ≡ other
+one_told seen (Ok (Some reply)) one other (came, of, is) (more, too, also) =
+    is ∙ ap (λ (c : Came). let told : Uploaded = Ok (Some c) in told) (one_kept seen reply came more of too) ∙ sym also
+one_told seen (Ok None) one other is also = is ∙ sym also
+one_told seen (Err want) one other is also = is ∙ sym also
+
+one_tells : (seen : Seen) (heard : Heard) → One (Tells seen heard) UploadFed
+one_tells seen heard answers r q d e fr fq =
+    d.gives ∙ ap (λ (told : Uploaded). let run : UploadRun = run_with told [] answers in run) (one_told seen heard d.told e.told d.is e.is) ∙ sym e.gives
+
+tells_fed : (seen : Seen) (heard : Heard) (answers : List Answer) (r : UploadRun) → Tells seen heard answers r → UploadFed r.result → HeardFed heard
+tells_fed seen (Ok came) answers r does fed = tt
+tells_fed seen (Err want) answers r does fed =
+    subst UploadFed does.is (subst (λ (run : UploadRun). UploadFed run.result) does.gives fed)
+
+one_uploads : (base : BaseParts) (path : PathParts) (seen : Seen) (bytes : List ℕ) → One (Uploads base path seen bytes) UploadFed
+one_uploads base path seen bytes answers r q (sends d) (sends e) fr fq =
+    one_then one_device (Exchanges base (put_text base path seen bytes)) (Tells seen) HeardFed UploadFed (one_exchanges base (put_text base path seen bytes)) (one_tells seen) (tells_fed seen) answers r q d e fr fq
+one_uploads base path seen bytes answers r q (sends d) (not_sent want gives) fr fq = starved_upload want answers q (r ≡ q) gives fq
+one_uploads base path seen bytes answers r q (not_sent want gives) e fr fq = starved_upload want answers r (r ≡ q) gives fr
 
 -- the drain
 abbrev DrainRun : Type 0
@@ -338,40 +382,40 @@ no_idle before now taken job P one two =
     let h : Ok Idle ≡ Ok (Took job) = ap answers (sym one ∙ two) in absurd (cc)
 
 -- two turns over the same table and answers
-record SameTurn (base : BaseParts) (before : Table) (answers : List Answer) (now other : Table) (sent more : HeardRun) : Type 0 where
+record SameTurn (base : BaseParts) (before : Table) (answers : List Answer) (now other : Table) (sent more : UploadRun) : Type 0 where
   tables : now ≡ other
   runs : sent ≡ more
 
-came_of : (r : HeardRun) (came : Option ℕ) → r.result ≡ Ok came → HeardFed r.result
-came_of r came is = subst HeardFed (sym is) tt
+came_of : (r : UploadRun) (came : Option Came) → r.result ≡ Ok came → UploadFed r.result
+came_of r came is = subst UploadFed (sym is) tt
 
-same_came : (a b : HeardRun) (came other : Option ℕ) → a ≡ b → a.result ≡ Ok came → b.result ≡ Ok other → came ≡ other
+same_came : (a b : UploadRun) (came other : Option Came) → a ≡ b → a.result ≡ Ok came → b.result ≡ Ok other → came ≡ other
 same_came a b came other same one two =
-    let h : a.result ≡ b.result = ap (λ (r : HeardRun). r.result) same in
-    let o : Heard = a.result in cc
+    let h : a.result ≡ b.result = ap (λ (r : UploadRun). r.result) same in
+    let o : Uploaded = a.result in cc
 
 same_job : (i j : Job) (answer : Result DeskAnswer DeskFault) → answer ≡ Ok (Took i) → answer ≡ Ok (Took j) → i ≡ j
 same_job i j answer one two = cc
 
-same_turn : (base : BaseParts) (before : Table) (answers : List Answer) (now other : Table) (sent more : HeardRun) → Turn base before answers now sent → Turn base before answers other more → SameTurn base before answers now other sent more
+same_turn : (base : BaseParts) (before : Table) (answers : List Answer) (now other : Table) (sent more : UploadRun) → Turn base before answers now sent → Turn base before answers other more → SameTurn base before answers now other sent more
 same_turn base before answers now other sent more one two =
     let tables : one.taken ≡ two.taken = ap (λ (s : Stepped). s.0) (sym one.takes ∙ two.takes) in
     let jobs = same_job one.job two.job (after before Take).1 (ap (λ (s : Stepped). s.1) one.takes) (ap (λ (s : Stepped). s.1) two.takes) in
-    let uploads : Uploads base two.job.path two.job.bytes answers sent = subst (λ (j : Job). Uploads base j.path j.bytes answers sent) jobs one.uploads in
-    let runs : sent ≡ more = one_uploads base two.job.path two.job.bytes answers sent more uploads two.uploads (came_of sent one.came one.heard) (came_of more two.came two.heard) in
+    let uploads : Uploads base two.job.path Absent two.job.bytes answers sent = subst (λ (j : Job). Uploads base j.path Absent j.bytes answers sent) jobs one.uploads in
+    let runs : sent ≡ more = one_uploads base two.job.path Absent two.job.bytes answers sent more uploads two.uploads (came_of sent one.came one.heard) (came_of more two.came two.heard) in
     let came : one.came ≡ two.came = same_came sent more one.came two.came runs one.heard two.heard in
     let settling : after two.taken (Settle two.job.number (done_of two.came)) ≡ (now, Ok (Settled one.fated)) =
-    ap (λ (c : Option ℕ). after two.taken (Settle two.job.number (done_of c))) (sym came)
+    ap (λ (c : Option Came). after two.taken (Settle two.job.number (done_of c))) (sym came)
     ∙ ap (λ (j : Job). after two.taken (Settle j.number (done_of one.came))) (sym jobs)
     ∙ ap (λ (t : Table). after t (Settle one.job.number (done_of one.came))) (sym tables)
     ∙ one.settles in
     record { tables = ap (λ (s : Stepped). s.0) (sym settling ∙ two.settles); runs = runs }
 
-turn_then : (now other : Table) (sent more : HeardRun) (base : BaseParts) (r q rest later : DrainRun) → now ≡ other → sent ≡ more → r ≡ prepend one_device sent.made rest → q ≡ prepend one_device more.made later
+turn_then : (now other : Table) (sent more : UploadRun) (base : BaseParts) (r q rest later : DrainRun) → now ≡ other → sent ≡ more → r ≡ prepend one_device sent.made rest → q ≡ prepend one_device more.made later
     → ((x : DrainRun) → Drains base now sent.left x → DrainFed x.result → rest ≡ x) → Drains base other more.left later → DrainFed q.result → r ≡ q
 turn_then now other sent more base r q rest later tables runs is also same drains fed =
-    let back : Drains base now sent.left later = subst (λ (s : HeardRun). Drains base now s.left later) (sym runs) (subst (λ (t : Table). Drains base t more.left later) (sym tables) drains) in
-    is ∙ ap (prepend one_device sent.made) (same later back (sym (ap (λ (run : DrainRun). run.result.0) also) ∙ fed)) ∙ ap (λ (s : HeardRun). prepend one_device s.made later) runs ∙ sym also
+    let back : Drains base now sent.left later = subst (λ (s : UploadRun). Drains base now s.left later) (sym runs) (subst (λ (t : Table). Drains base t more.left later) (sym tables) drains) in
+    is ∙ ap (prepend one_device sent.made) (same later back (sym (ap (λ (run : DrainRun). run.result.0) also) ∙ fed)) ∙ ap (λ (s : UploadRun). prepend one_device s.made later) runs ∙ sym also
 
 idle_or : (base : BaseParts) (before : Table) (answers : List Answer) (r q : DrainRun) → after before Take ≡ (before, Ok Idle) → give one_device (true, before) answers r → Drains base before answers q → q.result.0 ≡ true → r ≡ q
 idle_or base before answers r q none gives (idle t a x also too) fq = gives ∙ sym too
@@ -379,7 +423,7 @@ idle_or base before answers r q none gives (drain_memory t a x too) fq = not_dra
 idle_or base before answers r q none gives (drain_starved t a x now sent s is) fq = not_drained now sent.made sent.left x (r ≡ x) is fq
 idle_or base before answers r q none gives (turn t a x now sent rest one goes is) fq = no_idle t t one.taken one.job (r ≡ x) none one.takes
 
-turn_or : (base : BaseParts) (before : Table) (answers : List Answer) (r q : DrainRun) (now : Table) (sent : HeardRun) (rest : DrainRun) → Turn base before answers now sent → r ≡ prepend one_device sent.made rest
+turn_or : (base : BaseParts) (before : Table) (answers : List Answer) (r q : DrainRun) (now : Table) (sent : UploadRun) (rest : DrainRun) → Turn base before answers now sent → r ≡ prepend one_device sent.made rest
     → ((x : DrainRun) → Drains base now sent.left x → DrainFed x.result → rest ≡ x) → Drains base before answers q → q.result.0 ≡ true → r ≡ q
 turn_or base before answers r q now sent rest one is same (idle t a x none too) fq = no_idle t t one.taken one.job (r ≡ x) none one.takes
 turn_or base before answers r q now sent rest one is same (drain_memory t a x too) fq = not_drained t [] a x (r ≡ x) too fq

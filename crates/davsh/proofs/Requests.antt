@@ -8,6 +8,9 @@ use Rattle.dav_edge.specs.Whole.{Sends}
 use Rattle.dav_edge.proofs.Connecting.{after_calls-append}
 use Rattle.dav_edge.proofs.Sending.{sent_so, sends_standing}
 use Rattle.dav_text.specs.Path.{PathParts}
+use Rattle.dav_text.specs.declared.tag.Seen.{Seen}
+use Rattle.dav_text.specs.declared.tag.Seen.TheVariants.{Absent}
+use Rattle.dav_frame.specs.Reading.{reply_of}
 use Rattle.dav_desk.specs.Kept.{KeptFile, HoldsFile}
 use Rattle.dav_desk.specs.Entries.{Every, Differ}
 use Rattle.dav_desk.specs.Table.{Table, IsQueued, IsTaken, IsWithin}
@@ -17,7 +20,7 @@ use Rattle.dav_desk.specs.declared.answer.Job.{Job}
 use Rattle.dav_desk.specs.declared.ask.Ask.TheVariants.{Take}
 use Rattle.dav_uri.specs.Target.{BaseParts}
 use Rattle.dav_desk.proofs.Laws.{take_is_within, take_keeps_files, take_gives_queued, take_marks_path, take_keeps_taken, take_gives_other, settle_is_within, settle_queues_nothing, settle_keeps_taken}
-use Rattle.davsh.specs.Exchange.{Heard, Judged, whole, broken, short, memory, Ended, closed, cut, Hears, hears_if, Talks, Shuts, Exchanges, Uploads, sends, memory as no_memory, put_text}
+use Rattle.davsh.specs.Exchange.{Heard, Uploaded, is_end, Judged, whole, broken, short, memory, Ended, closed, cut, Hears, hears_if, Talks, Shuts, Exchanges, Uploads, sends, memory as no_memory, put_text, new_text}
 use Rattle.davsh.specs.Drain.{Drains, Turn, idle, memory as drain_memory, starved, turn, done_of}
 use Rattle.davsh.specs.Kept.{IsBegun, Pairwise}
 use Rattle.davsh.proofs.Putting.{shuts_down}
@@ -65,14 +68,14 @@ receives_more piece run rest is more =
 
 judged_receives : (so_far piece : List ℕ) (left : List Answer) (run rest : HeardRun) → run ≡ prepend one_device (happened (Receive 4096) (Gives piece) ∷ []) rest
     → (GoesOn : HeardRun → Type 0) → Judged so_far GoesOn left rest → (GoesOn rest → Receives rest.made) → Receives run.made
-judged_receives so_far piece left run rest is GoesOn (whole reply after framing gives) later = receives_piece piece left run rest (Ok (Some reply.head.status)) is gives
+judged_receives so_far piece left run rest is GoesOn (whole reply after framing gives) later = receives_piece piece left run rest (Ok (Some (reply_of reply (is_end after)))) is gives
 judged_receives so_far piece left run rest is GoesOn (broken fault framing gives) later = receives_piece piece left run rest (Ok None) is gives
 judged_receives so_far piece left run rest is GoesOn (short framing goes) later = receives_more piece run rest is (later goes)
 judged_receives so_far piece left run rest is GoesOn (memory want gives) later = receives_piece piece left run rest (Err want) is gives
 
 ended_receives : (so_far : List ℕ) (left : List Answer) (run rest : HeardRun) → run ≡ prepend one_device (happened (Receive 4096) (Gives []) ∷ []) rest
     → Ended so_far left rest → Receives run.made
-ended_receives so_far left run rest is (closed reply framing gives) = receives_piece [] left run rest (Ok (Some reply.head.status)) is gives
+ended_receives so_far left run rest is (closed reply framing gives) = receives_piece [] left run rest (Ok (Some (reply_of reply false))) is gives
 ended_receives so_far left run rest is (cut framing gives) = receives_piece [] left run rest (Ok None) is gives
 
 hears_receives : (so_far : List ℕ) (answers : List Answer) (run : HeardRun) → Hears so_far answers run → Receives run.made
@@ -159,16 +162,22 @@ exchange_adds base text (Goes ∷ more) run does = connected_adds base text more
 exchange_adds base text (Takes n ∷ more) run does = absurd does
 exchange_adds base text (Gives piece ∷ more) run does = absurd does
 
-upload_adds : (base : BaseParts) (path : PathParts) (bytes : List ℕ) (answers : List Answer) (run : HeardRun) → Uploads base path bytes answers run → Adds base (put_text base path bytes) run.made
-upload_adds base path bytes answers run (sends does) = exchange_adds base (put_text base path bytes) answers run does
-upload_adds base path bytes answers run (no_memory want gives) =
-    adds_none base (put_text base path bytes) run.made (λ ended. ap (λ (r : HeardRun). after_calls (with_standing ended None) r.made) gives)
+abbrev UploadRun : Type 0
+UploadRun = Run (List Happened) (List Answer) Uploaded
+
+upload_adds : (base : BaseParts) (path : PathParts) (seen : Seen) (bytes : List ℕ) (answers : List Answer) (run : UploadRun) → Uploads base path seen bytes answers run → Adds base (put_text base path seen bytes) run.made
+upload_adds base path seen bytes answers run (sends does) =
+    let made : run.made ≡ does.before.made =
+    ap (λ (r : UploadRun). r.made) (does.whole ∙ ap (prepend one_device does.before.made) does.goes_on.gives) ∙ append-nil does.before.made in
+    subst (Adds base (put_text base path seen bytes)) (sym made) (exchange_adds base (put_text base path seen bytes) answers does.before does.begins)
+upload_adds base path seen bytes answers run (no_memory want gives) =
+    adds_none base (put_text base path seen bytes) run.made (λ ended. ap (λ (r : UploadRun). after_calls (with_standing ended None) r.made) gives)
 
 -- a beginning of the request of a file of the queue was sent on the connection
 pub record IsPutOf (base : BaseParts) (table : Table) (path : PathParts) (c : Connection) : Type 0 where
   pub bytes : List ℕ
   pub queued : IsQueued table path bytes
-  pub begun : IsBegun base (put_text base path bytes) c
+  pub begun : IsBegun base (new_text base path bytes) c
 
 pub pairwise_weaker : {X Y : Type 0} (P Q : X → Y → Type 0) → ((x : X) (y : Y) → P x y → Q x y) → (xs : List X) (ys : List Y) → Pairwise P xs ys → Pairwise Q xs ys
 pairwise_weaker P Q f [] [] all = tt
@@ -200,11 +209,11 @@ drain_none base before run went now left is =
       adds = λ ended. ap (λ (l : List Connection). with_standing l None) (sym (append-nil ended));
     })
 
-put_of : (base : BaseParts) (before taken : Table) (job : Job) (c : Connection) → after before Take ≡ (taken, Ok (Took job)) → IsBegun base (put_text base job.path job.bytes) c → IsPutOf base before job.path c
+put_of : (base : BaseParts) (before taken : Table) (job : Job) (c : Connection) → after before Take ≡ (taken, Ok (Took job)) → IsBegun base (new_text base job.path job.bytes) c → IsPutOf base before job.path c
 put_of base before taken job c takes begun = record { bytes = job.bytes; queued = take_gives_queued before taken job takes; begun = begun }
 
 -- one job, and what comes behind it
-drain_job : (base : BaseParts) (before taken now : Table) (job : Job) (es fs : List Happened) → IsWithin before → after before Take ≡ (taken, Ok (Took job)) → Adds base (put_text base job.path job.bytes) es
+drain_job : (base : BaseParts) (before taken now : Table) (job : Job) (es fs : List Happened) → IsWithin before → after before Take ≡ (taken, Ok (Took job)) → Adds base (new_text base job.path job.bytes) es
     → DrainAdds base now fs → ((path : PathParts) (bytes : List ℕ) → IsQueued now path bytes → IsQueued before path bytes) → ((path : PathParts) → IsTaken taken path → IsTaken now path)
     → DrainAdds base before (es ++ fs)
 drain_job base before taken now job es fs within takes one two back stays = by_new one.new one.begun one.adds
@@ -223,7 +232,7 @@ drain_job base before taken now job es fs within takes one two back stays = by_n
     later_fresh : (path : PathParts) → IsTaken before path → NoneIs path two.paths
     later_fresh path was = two.fresh path (stays path (take_keeps_taken before taken job takes path was))
 
-    by_new : (new : Option Connection) → OnSome new (IsBegun base (put_text base job.path job.bytes))
+    by_new : (new : Option Connection) → OnSome new (IsBegun base (new_text base job.path job.bytes))
         → ((ended : List Connection) → after_calls (with_standing ended None) es ≡ with_standing (ended ++ as_list new) None) → DrainAdds base before (es ++ fs)
     by_new None begun first = record {
       paths = two.paths;
@@ -242,7 +251,7 @@ drain_job base before taken now job es fs within takes one two back stays = by_n
       adds = adds (c ∷ []) first;
     }
 
-queued_before : (base : BaseParts) (before now : Table) (answers : List Answer) (sent : HeardRun) (t : Turn base before answers now sent) (path : PathParts) (bytes : List ℕ) → IsQueued now path bytes → IsQueued before path bytes
+queued_before : (base : BaseParts) (before now : Table) (answers : List Answer) (sent : UploadRun) (t : Turn base before answers now sent) (path : PathParts) (bytes : List ℕ) → IsQueued now path bytes → IsQueued before path bytes
 queued_before base before now answers sent t path bytes queued =
     subst (λ (files : List KeptFile). HoldsFile files path bytes) (take_keeps_files before t.taken t.job t.takes)
     (settle_queues_nothing t.taken t.job.number (done_of t.came) now (Settled t.fated) t.settles path bytes queued)
@@ -253,13 +262,13 @@ drain_adds base before answers run within (drain_memory t a r gives) = drain_non
 drain_adds base before answers run within (starved t a r now sent s is) =
     let none = drain_none base now (run_with (false, now) [] a) false now a refl in
     subst (DrainAdds base t) (append-nil sent.made ∙ sym (ap (λ (q : DrainRun). q.made) is))
-    (drain_job base t now now s.job sent.made [] within s.takes (upload_adds base s.job.path s.job.bytes a sent s.uploads) none
+    (drain_job base t now now s.job sent.made [] within s.takes (upload_adds base s.job.path Absent s.job.bytes a sent s.uploads) none
     (λ path bytes queued. subst (λ (files : List KeptFile). HoldsFile files path bytes) (take_keeps_files t now s.job s.takes) queued) (λ path was. was))
 drain_adds base before answers run within (turn t a r now sent rest one more is) =
     let taken_within = take_is_within t one.taken one.job within one.takes in
     let now_within = settle_is_within one.taken one.job.number (done_of one.came) now (Settled one.fated) taken_within one.settles in
     subst (DrainAdds base t) (sym (ap (λ (q : DrainRun). q.made) is))
-    (drain_job base t one.taken now one.job sent.made rest.made within one.takes (upload_adds base one.job.path one.job.bytes a sent one.uploads) (drain_adds base now sent.left rest now_within more)
+    (drain_job base t one.taken now one.job sent.made rest.made within one.takes (upload_adds base one.job.path Absent one.job.bytes a sent one.uploads) (drain_adds base now sent.left rest now_within more)
     (queued_before base t now a sent one) (settle_keeps_taken one.taken one.job.number (done_of one.came) now (Settled one.fated) one.settles))
 
 -- each connection is of a queued path of its own

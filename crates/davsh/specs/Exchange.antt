@@ -1,5 +1,5 @@
 -- One request and its reply: connect, send the whole text, read one reply, shut.
-use Rattle.std.specs.Prelude.{◌≡◌, ◌≢◌, ◌⊎◌, ℕ, List, [], ◌∷◌, ◌++◌, codes, Bool, true, false, Option, Some, None, Result, Ok, Err, nat_le, nat_eq, ◌&&◌, ◌||◌}
+use Rattle.std.specs.Prelude.{◌≡◌, ◌≢◌, ◌⊎◌, ℕ, List, [], ◌∷◌, ◌++◌, Bool, true, false, Option, Some, None, Result, Ok, Err}
 use Rattle.dav_machine.specs.Devices.{one_device}
 use Rattle.dav_machine.specs.Machine.{Run, give, Calls, and_then}
 use Rattle.dav_edge.specs.Device.{Connect, Receive, Answer, Fails, Goes, Gives, Happened, happened, shut_down, ByteMachine}
@@ -7,30 +7,46 @@ use Rattle.dav_edge.specs.Whole.{Sends}
 use Rattle.dav_text.specs.declared.memory.Memory.{Memory}
 use Rattle.dav_text.specs.declared.method.Method.TheVariants.{Put}
 use Rattle.dav_text.specs.Path.{PathParts, escaped}
-use Rattle.dav_frame.specs.declared.fields.FieldName.TheVariants.{IfNoneMatch}
+use Rattle.dav_text.specs.declared.tag.Seen.{Seen}
+use Rattle.dav_text.specs.declared.tag.Seen.TheVariants.{Absent}
+use Rattle.dav_frame.specs.declared.fields.FieldName.{FieldName}
+use Rattle.dav_frame.specs.declared.reader.Reply.{Reply}
+use Rattle.dav_frame.specs.Reading.{reply_of}
 use Rattle.dav_frame.specs.declared.request.Req.{Req}
 use Rattle.dav_frame.specs.declared.fault.FrameFault.{FrameFault}
 use Rattle.dav_frame.specs.declared.fault.FrameFault.TheVariants as faults
 use Rattle.dav_frame.specs.Framing.{Message, Framing, Gives as GivesReply, Closes, Faults, Short}
 use Rattle.dav_uri.specs.Target.{BaseParts, host_field}
 use Rattle.dav_frame.specs.Request.{request_text}
+use Rattle.dav_verbs.specs.Precondition.{precondition_of, fields_of}
+use Rattle.dav_verbs.specs.Retry.{retry_after_of}
+use Rattle.dav_verbs.specs.Seen.{IsSeenAfter}
+use Rattle.davsh.specs.declared.came.Came.{Came}
 
--- the request that stores the bytes as a new file
-abbrev pub put_request : BaseParts → PathParts → List ℕ → Req
-put_request base path bytes = record {
+-- the fields of a request that is to go through only where its file is what is known of it
+abbrev pub precondition_fields : Seen → List (FieldName × List ℕ)
+precondition_fields seen = fields_of (precondition_of seen)
+
+-- the request that stores the bytes under the path, of which this is known
+abbrev pub put_request : BaseParts → PathParts → Seen → List ℕ → Req
+put_request base path seen bytes = record {
   method = Put;
   host = host_field base.host base.port;
   target = escaped path;
-  fields = (IfNoneMatch, codes "*") ∷ [];
+  fields = precondition_fields seen;
   body = bytes;
 }
 
-abbrev pub put_text : BaseParts → PathParts → List ℕ → List ℕ
-put_text base path bytes = request_text (put_request base path bytes)
+abbrev pub put_text : BaseParts → PathParts → Seen → List ℕ → List ℕ
+put_text base path seen bytes = request_text (put_request base path seen bytes)
 
--- the status of a whole reply, or none where no whole reply came, or want of memory
+-- the text of the request that stores the bytes as a new file
+abbrev pub new_text : BaseParts → PathParts → List ℕ → List ℕ
+new_text base path bytes = put_text base path Absent bytes
+
+-- a whole reply, or none where no whole reply came, or want of memory
 abbrev pub Heard : Type 0
-Heard = Result (Option ℕ) Memory
+Heard = Result (Option Reply) Memory
 
 -- a fault is no reply, or is want of memory
 abbrev pub IsHeardOf : FrameFault → Heard → Type 0
@@ -46,17 +62,22 @@ pub data HasReply (received : List ℕ) (reply : Message) : Type 0 where
 abbrev pub StaysOpen : List ℕ → Type 0
 StaysOpen so_far = Framing Put so_far Short ⊎ ((reply : Message) × Framing Put so_far (Closes reply))
 
+-- no byte follows
+abbrev pub is_end : List ℕ → Bool
+is_end [] = true
+is_end (b ∷ rest) = false
+
 -- What is done after a piece that isn't the last of the connection, by what the bytes so far are: a whole
 -- reply, no beginning of one, or the beginning of one, behind which the reading goes on.
 pub data Judged (so_far : List ℕ) (GoesOn : Run (List Happened) (List Answer) Heard → Type 0) (left : List Answer) (run : Run (List Happened) (List Answer) Heard) : Type 0 where
-  whole : (reply : Message) (rest : List ℕ) → Framing Put so_far (GivesReply reply rest) → give one_device (Ok (Some reply.head.status)) left run → Judged so_far GoesOn left run
+  whole : (reply : Message) (rest : List ℕ) → Framing Put so_far (GivesReply reply rest) → give one_device (Ok (Some (reply_of reply (is_end rest)))) left run → Judged so_far GoesOn left run
   broken : (fault : FrameFault) → Framing Put so_far (Faults fault) → give one_device (Ok None) left run → Judged so_far GoesOn left run
   short : StaysOpen so_far → GoesOn run → Judged so_far GoesOn left run
   memory : (want : Memory) → give one_device (Err want) left run → Judged so_far GoesOn left run
 
 -- what is done at the connection's end: the bytes so far are a reply that ends there, or are cut
 pub data Ended (so_far : List ℕ) (left : List Answer) (run : Run (List Happened) (List Answer) Heard) : Type 0 where
-  closed : (reply : Message) → Framing Put so_far (Closes reply) → give one_device (Ok (Some reply.head.status)) left run → Ended so_far left run
+  closed : (reply : Message) → Framing Put so_far (Closes reply) → give one_device (Ok (Some (reply_of reply false))) left run → Ended so_far left run
   cut : Framing Put so_far Short → give one_device (Ok None) left run → Ended so_far left run
 
 -- the reply is read, behind what has come of it
@@ -86,15 +107,29 @@ Exchanges base text (Goes ∷ more) run = Calls (happened (Connect base.host bas
 Exchanges base text (Fails ∷ more) run = Calls (happened (Connect base.host base.port) Fails) (give one_device (Ok None) more) run
 Exchanges base text _ run = ⊥
 
--- the file is sent as a new one, or there was no memory for its request
-pub data Uploads (base : BaseParts) (path : PathParts) (bytes : List ℕ) (answers : List Answer) (run : Run (List Happened) (List Answer) Heard) : Type 0 where
-  sends : Exchanges base (put_text base path bytes) answers run → Uploads base path bytes answers run
-  memory : (want : Memory) → give one_device (Err want) answers run → Uploads base path bytes answers run
+-- what is kept of the reply to an upload, before which this was known of the file
+pub record IsCameOf (seen : Seen) (reply : Reply) (came : Came) : Type 0 where
+  pub status : came.status ≡ reply.status
+  pub known : IsSeenAfter seen Put reply.status reply.fields came.seen
+  pub waits : came.retry_after ≡ retry_after_of reply.fields
 
--- the status says that the server took the request
-abbrev pub is_success : ℕ → Bool
-is_success status = nat_le 200 status && nat_le status 299
+-- what came of an upload, or none where no whole reply came, or want of memory
+abbrev pub Uploaded : Type 0
+Uploaded = Result (Option Came) Memory
 
--- the status says that the same request may succeed later
-abbrev pub asks_again : ℕ → Bool
-asks_again status = nat_eq 408 status || nat_eq 429 status || nat_eq 500 status || nat_eq 502 status || nat_eq 503 status || nat_eq 504 status
+-- the same, by what was heard
+abbrev pub IsToldOf : Seen → Heard → Uploaded → Type 0
+IsToldOf seen (Ok (Some reply)) told = (came : Came) × IsCameOf seen reply came × (told ≡ Ok (Some came))
+IsToldOf seen (Ok None) told = told ≡ Ok None
+IsToldOf seen (Err want) told = told ≡ Err want
+
+-- what was heard is told
+pub record Tells (seen : Seen) (heard : Heard) (answers : List Answer) (run : Run (List Happened) (List Answer) Uploaded) : Type 0 where
+  pub told : Uploaded
+  pub is : IsToldOf seen heard told
+  pub gives : give one_device told answers run
+
+-- the file is sent, where this is known of it, or there was no memory for its request
+pub data Uploads (base : BaseParts) (path : PathParts) (seen : Seen) (bytes : List ℕ) (answers : List Answer) (run : Run (List Happened) (List Answer) Uploaded) : Type 0 where
+  sends : and_then one_device (Exchanges base (put_text base path seen bytes)) (Tells seen) answers run → Uploads base path seen bytes answers run
+  memory : (want : Memory) → give one_device (Err want) answers run → Uploads base path seen bytes answers run

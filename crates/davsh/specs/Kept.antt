@@ -14,7 +14,8 @@ use Rattle.davsh.specs.declared.ended.Status.TheVariants.{Done, Faults, Words, I
 use Rattle.davsh.specs.Words.{IsBase}
 use Rattle.davsh.specs.Line.{lines_of, IsPut}
 use Rattle.davsh.specs.Shell.{State, fresh_state, counted, closed_line, Answered}
-use Rattle.davsh.specs.Exchange.{put_text, HasReply, is_success}
+use Rattle.dav_verbs.specs.Outcome.{is_success}
+use Rattle.davsh.specs.Exchange.{new_text, HasReply}
 use Rattle.davsh.specs.Run.{Made, BothGrew, Ending, words_end, input_end, memory_end, left_text, EndHeard}
 
 -- a line that was carried out, at which current path, and what was printed of it
@@ -60,7 +61,7 @@ pub record WasPut (base : BaseParts) (path : PathParts) (bytes : List ℕ) (even
   pub to_port : connection.port ≡ base.port
   pub named : PathParts
   pub same : named.segments ≡ path.segments
-  pub sent : connection.sent ≡ put_text base named bytes
+  pub sent : connection.sent ≡ new_text base named bytes
   pub reply : Message
   pub received : HasReply connection.received reply
   pub success : is_success reply.head.status ≡ true
@@ -76,7 +77,7 @@ pub record IsBegun (base : BaseParts) (text : List ℕ) (connection : Connection
 pub record IsOfClose (base : BaseParts) (told : List Told) (path : PathParts) (connection : Connection) : Type 0 where
   pub bytes : List ℕ
   pub close : IsLastClose told path bytes
-  pub begun : IsBegun base (put_text base path bytes) connection
+  pub begun : IsBegun base (new_text base path bytes) connection
 
 -- each of the ones goes with that of the others at its place
 abbrev pub Pairwise : {X Y : Type 0} → (X → Y → Type 0) → List X → List Y → Type 0

@@ -3,15 +3,18 @@ ghost use Rattle.dav_edge.specs.Whole.{DoesOn};
 ghost use Rattle.dav_desk.specs.After.{after};
 ghost use Rattle.dav_desk.specs.declared.answer.Answer.{Answer as DeskAnswer};
 ghost use Rattle.dav_desk.specs.declared.ask.Ask.TheVariants.{Settle};
-ghost use Rattle.davsh.specs.Drain.{Drains, IsFlying, done_of, outcome_of};
+ghost use Rattle.davsh.specs.Drain.{Drains, IsFlying, done_of, done_by};
 
+use crate::came::Came;
 use crate::exchange::upload;
 use dav_desk::{Answer, Ask, Desk, Done};
 use dav_edge::Wire;
+use dav_text::Seen;
 use dav_uri::Base;
+use dav_verbs::{Outcome, outcome_of};
 use std::alloc::Global;
 
-/// Sends each file that is queued once. False is want of memory.
+/// Sends each file that is queued once, as a new one. False is want of memory.
 pub fn drain<V: Wire>(alloc: Global, base: &Base, wire: &mut V, desk: &mut Desk) -> bool
     ensures { DoesOn (V.log wire.old) (V.log wire.new) (Drains base.now desk.old) (result, desk.new) }
 {
@@ -23,7 +26,7 @@ pub fn drain<V: Wire>(alloc: Global, base: &Base, wire: &mut V, desk: &mut Desk)
             return true;
         };
         let number = job.number;
-        let Ok(came) = upload(alloc, base, wire, job) else {
+        let Ok(came) = upload(alloc, base, wire, job, &Seen::Absent) else {
             return false;
         };
         settle(desk, number, done_of(came));
@@ -42,25 +45,24 @@ fn settle(desk: &mut Desk, number: u64, done: Done)
     }
 }
 
-/// How a job ends by the status of its whole reply, if one came. At 401 a login is wanted, and
-/// there is none to give.
-fn done_of(came: Option<u16>) -> Done
+/// How a job ends, by what came of its file. None is no whole reply. At 401 a login is wanted, and there is
+/// none to give.
+fn done_of(came: Option<Came>) -> Done
     ensures { result ≡ done_of came }
 {
     match came {
-        None | Some(401) => Done::Again,
-        Some(status) => outcome_of(status),
+        None | Some(Came { status: 401, .. }) => Done::Again,
+        Some(came) => done_by(outcome_of(came.status)),
     }
 }
 
-/// What a status says of the file that was sent: the server took it, or may take it later, or
-/// refused it.
-fn outcome_of(status: u16) -> Done
-    ensures { result ≡ outcome_of status }
+/// The same, by what the status says of the file.
+fn done_by(outcome: Outcome) -> Done
+    ensures { result ≡ done_by outcome }
 {
-    match status {
-        200..=299 => Done::Sent,
-        408 | 429 | 500 | 502 | 503 | 504 => Done::Again,
-        _ => Done::Refused,
+    match outcome {
+        Outcome::Sent => Done::Sent,
+        Outcome::Again => Done::Again,
+        Outcome::Refused => Done::Refused,
     }
 }

@@ -1,63 +1,100 @@
-ghost use Rattle.std.specs.Prelude.{◌≡◌, ◌⊎◌, [], IfOk, ℕ, List};
+ghost use Rattle.std.specs.Prelude.{◌≡◌, ◌⊎◌, [], IfOk, false, ℕ, List, Some, None, Ok};
 ghost use Rattle.dav_edge.specs.Whole.{DoesOn};
-ghost use Rattle.davsh.specs.Exchange.{put_request, put_text, IsHeardOf, Hears, Talks, Exchanges, Uploads};
+ghost use Rattle.davsh.specs.Exchange.{put_request, put_text, precondition_fields, IsHeardOf, IsCameOf, IsToldOf, Hears, Talks, Exchanges, Uploads};
 ghost use Rattle.dav_frame.specs.Framing.{Message, Gives, Closes, Short};
-ghost use Rattle.dav_frame.specs.Reading.{FromPhase, IsWhole, IsReading};
+ghost use Rattle.dav_frame.specs.Reading.{FromPhase, IsWhole, IsReading, is_alone, reply_of};
 
+use crate::came::Came;
 use dav_desk::Job;
 use dav_edge::{Wire, send_whole};
-use dav_frame::{FieldName, Fields, FrameFault, ReplyReader, Req, write_request};
-use dav_text::{Memory, Method};
+use dav_frame::{Fields, FrameFault, Reply, ReplyReader, Req, write_request};
+use dav_text::{Memory, Method, Seen};
 use dav_uri::Base;
+use dav_verbs::{precondition, retry_after, seen_after};
 use std::alloc::Global;
 
-/// Sends the job's file as a new one, and gives the status of a whole reply.
+/// Sends the job's file, of which `seen` is known on the server, and tells what came of it. None is no whole
+/// reply.
 pub fn upload<V: Wire>(
     alloc: Global,
     base: &Base,
     wire: &mut V,
     job: Job,
-) -> Result<Option<u16>, Memory>
-    ensures { DoesOn (V.log wire.old) (V.log wire.new) (Uploads base.now job.path job.bytes) result }
+    seen: &Seen,
+) -> Result<Option<Came>, Memory>
+    ensures { DoesOn (V.log wire.old) (V.log wire.new) (Uploads base.now job.path seen.now job.bytes) result }
 {
-    let Ok(text) = write_put(alloc, base, job) else {
+    let Ok(text) = write_put(alloc, base, job, seen) else {
         return Err(Memory);
     };
-    exchange(alloc, base, wire, text.as_slice())
+    let heard = exchange(alloc, base, wire, text.as_slice());
+    told_of(seen, heard)
+}
+
+/// What came of an upload, by what was heard.
+fn told_of(seen: &Seen, heard: Result<Option<Reply>, Memory>) -> Result<Option<Came>, Memory>
+    ensures { IsToldOf seen.now heard result }
+{
+    match heard {
+        Ok(Some(reply)) => Ok(Some(came_of(seen, &reply))),
+        Ok(None) => Ok(None),
+        Err(want) => Err(want),
+    }
+}
+
+/// What is kept of the reply to an upload.
+fn came_of(seen: &Seen, reply: &Reply) -> Came
+    ensures { IsCameOf seen.now reply.now result }
+{
+    Came {
+        status: reply.status,
+        seen: seen_after(seen, Method::Put, reply),
+        retry_after: retry_after(reply),
+    }
 }
 
 /// The text of the request that stores the job's file.
-fn write_put(alloc: Global, base: &Base, job: Job) -> Result<Vec<u8>, Memory>
-    ensures { IfOk result (λ text. text.items ≡ put_text base.now job.path job.bytes) }
+fn write_put(alloc: Global, base: &Base, job: Job, seen: &Seen) -> Result<Vec<u8>, Memory>
+    ensures { IfOk result (λ text. text.items ≡ put_text base.now job.path seen.now job.bytes) }
 {
-    let req = put_request(alloc, base, job)?;
+    let req = put_request(alloc, base, job, seen)?;
     let mut text = Vec::new(alloc);
     write_request(&req, &mut text)?;
     Ok(text)
 }
 
-/// The request that stores the job's file, only if there is none there: RFC 9110 section 13.1.2.
-fn put_request(alloc: Global, base: &Base, job: Job) -> Result<Req, Memory>
-    ensures { IfOk result (λ req. req ≡ put_request base.now job.path job.bytes) }
+/// The request that stores the job's file, only if what is there is what is known of it: RFC 9110 section 13.1.
+fn put_request(alloc: Global, base: &Base, job: Job, seen: &Seen) -> Result<Req, Memory>
+    ensures { IfOk result (λ req. req ≡ put_request base.now job.path seen.now job.bytes) }
 {
-    let mut fields = Fields::new(alloc);
-    fields.set(FieldName::IfNoneMatch, b"*")?;
     Ok(Req {
         method: Method::Put,
         host: base.host_field(alloc)?,
         target: job.path.escaped(alloc)?,
-        fields,
+        fields: precondition_fields(alloc, seen)?,
         body: job.bytes,
     })
 }
 
-/// Connects, sends the text, reads one reply and shuts. Gives the status of a whole reply.
+/// The fields that ask for what is known of a file.
+fn precondition_fields(alloc: Global, seen: &Seen) -> Result<Fields, Memory>
+    ensures { IfOk result (λ fields. fields ≡ precondition_fields seen.now) }
+{
+    let mut fields = Fields::new(alloc);
+    let precondition = precondition(seen);
+    if let Some((name, value)) = precondition.field() {
+        fields.set(name, value)?;
+    }
+    Ok(fields)
+}
+
+/// Connects, sends the text, reads one reply and shuts. None is no whole reply.
 fn exchange<V: Wire>(
     alloc: Global,
     base: &Base,
     wire: &mut V,
     text: &[u8],
-) -> Result<Option<u16>, Memory>
+) -> Result<Option<Reply>, Memory>
     ensures { DoesOn (V.log wire.old) (V.log wire.new) (Exchanges base.now text.now) result }
 {
     let Ok(()) = wire.connect(base.host(), base.port()) else {
@@ -68,7 +105,7 @@ fn exchange<V: Wire>(
     heard
 }
 
-fn talk<V: Wire>(alloc: Global, wire: &mut V, text: &[u8]) -> Result<Option<u16>, Memory>
+fn talk<V: Wire>(alloc: Global, wire: &mut V, text: &[u8]) -> Result<Option<Reply>, Memory>
     ensures { DoesOn (V.log wire.old) (V.log wire.new) (Talks text.now) result }
 {
     let Ok(()) = send_whole(wire, text) else {
@@ -77,8 +114,8 @@ fn talk<V: Wire>(alloc: Global, wire: &mut V, text: &[u8]) -> Result<Option<u16>
     hear(alloc, wire)
 }
 
-/// Reads one reply, and gives its status where it is whole.
-fn hear<V: Wire>(alloc: Global, wire: &mut V) -> Result<Option<u16>, Memory>
+/// Reads one reply. None where it is not whole.
+fn hear<V: Wire>(alloc: Global, wire: &mut V) -> Result<Option<Reply>, Memory>
     ensures { DoesOn (V.log wire.old) (V.log wire.new) (Hears []) result }
 {
     let mut reader = ReplyReader::new(alloc, Method::Put);
@@ -93,7 +130,7 @@ fn hear<V: Wire>(alloc: Global, wire: &mut V) -> Result<Option<u16>, Memory>
         match reader.feed(&buf[..count]) {
             Ok(progress) => {
                 if progress.done {
-                    return status_of(reader);
+                    return Ok(Some(whole(reader)));
                 }
             }
             Err(fault) => return heard_of(fault),
@@ -102,7 +139,7 @@ fn hear<V: Wire>(alloc: Global, wire: &mut V) -> Result<Option<u16>, Memory>
 }
 
 /// What a fault of the reply comes to: no reply, or want of memory.
-fn heard_of(fault: FrameFault) -> Result<Option<u16>, Memory>
+fn heard_of(fault: FrameFault) -> Result<Option<Reply>, Memory>
     ensures { IsHeardOf fault result }
 {
     match fault {
@@ -111,26 +148,26 @@ fn heard_of(fault: FrameFault) -> Result<Option<u16>, Memory>
     }
 }
 
-/// The status of the reply that was read.
-fn status_of(reader: ReplyReader) -> Result<Option<u16>, Memory>
+/// The reply that was read.
+fn whole(reader: ReplyReader) -> Reply
     requires { IsWhole reader }
-    ensures { (reply : Message) × ((rest : List ℕ) → FromPhase reader rest (Gives reply rest))
-        × (result ≡ Ok (Some reply.head.status)) }
+    ensures { (message : Message) × ((rest : List ℕ) → FromPhase reader rest (Gives message rest))
+        × (result ≡ reply_of message (is_alone reader)) }
 {
     match reader.end() {
-        Ok(reply) => Ok(Some(reply.status)),
+        Ok(reply) => reply,
         Err(_) => unreachable!(),
     }
 }
 
-/// The status of a reply whose body ends where the connection did.
-fn ended(reader: ReplyReader) -> Option<u16>
+/// A reply whose body ends where the connection did.
+fn ended(reader: ReplyReader) -> Option<Reply>
     requires { IsReading reader }
-    ensures { ((reply : Message) × FromPhase reader [] (Closes reply) × (result ≡ Some reply.head.status))
+    ensures { ((message : Message) × FromPhase reader [] (Closes message) × (result ≡ Some (reply_of message false)))
         ⊎ (FromPhase reader [] Short × (result ≡ None)) }
 {
     match reader.end() {
-        Ok(reply) => Some(reply.status),
+        Ok(reply) => Some(reply),
         Err(_) => None,
     }
 }

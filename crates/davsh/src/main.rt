@@ -1,6 +1,7 @@
 //! davsh: a shell for files on a WebDAV server.
 #![tactic(auto)]
 
+mod came;
 mod drain;
 mod ended;
 mod exchange;

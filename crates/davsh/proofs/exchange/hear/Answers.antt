@@ -1,9 +1,11 @@
-use Rattle.std.proofs.Common.{◌++◌, take, [], Ok, None, refl}
+use Rattle.std.proofs.Common.{◌++◌, take, drop, [], Ok, Some, None, refl, ap}
 use Rattle.dav_machine.specs.Devices.{one_device}
 use Rattle.dav_machine.specs.Machine.{give}
 use Rattle.dav_edge.proofs.Sending.{on_same, on_then}
-use Rattle.davsh.specs.Exchange.{Hears}
-use Rattle.davsh.proofs.Exchanging.{reads_on, reads_short, reads_whole, hears_short, hears_whole, hears_fault, hears_end, hears_failed}
+use Rattle.dav_frame.specs.declared.reader.Reply.{Reply}
+use Rattle.dav_frame.specs.Reading.{is_alone}
+use Rattle.davsh.specs.Exchange.{Heard, Hears}
+use Rattle.davsh.proofs.Exchanging.{reads_on, reads_short, reads_whole, reply_in, hears_short, hears_whole, hears_fault, hears_end, hears_failed}
 use Rattle.davsh.proofs.exchange.hear.Goals as goal
 
 pub loop-count-init : goal.loop-count-init
@@ -22,17 +24,20 @@ returns-then-count-eq0 g c =
     on_then _ _ _ (Hears []) (Hears c.loop-count.invariant.0) (give one_device (Ok c.ended.result)) c.loop-count.invariant.1
     (hears_end _ _ c.loop-count.invariant.0 c.receive.new.buf 4096 c.in-Ok.count c.loop-count.reader c.ended.result refl c.if-count-eq0.true c.in-Ok.ensures.log c.loop-count.invariant.2 c.ended.ensures)
 
-pub status_of-requires : goal.status_of-requires
-status_of-requires g c = c.in-Ok-feed.ensures.done.0 c.if-progress.true
+pub whole-requires : goal.whole-requires
+whole-requires g c = c.in-Ok-feed.ensures.done.0 c.if-progress.true
 
 pub returns-then-progress : goal.returns-then-progress
 returns-then-progress g c =
     let so_far = c.loop-count.invariant.0 in
-    let reply = c.status_of.ensures in
+    let piece = take c.in-Ok.count c.receive.new.buf in
+    let used = c.in-Ok-feed.progress.used in
+    let read = c.whole.ensures in
     on_then _ _ _ (Hears []) (Hears so_far) (give one_device _) c.loop-count.invariant.1
-    (hears_whole _ _ so_far c.receive.new.buf 4096 c.in-Ok.count reply.0 _ _ refl c.if-count-eq0.false c.in-Ok.ensures.count c.in-Ok.ensures.log
-    (reads_whole so_far (take c.in-Ok.count c.receive.new.buf) c.loop-count.reader c.feed.new.self c.in-Ok-feed.progress.used reply.0 c.loop-count.invariant.2 c.in-Ok-feed.ensures.leads reply.1)
-    reply.2)
+    (hears_whole _ _ so_far c.receive.new.buf 4096 c.in-Ok.count read.0 (drop used piece) _ refl c.if-count-eq0.false c.in-Ok.ensures.count c.in-Ok.ensures.log
+    (reads_whole so_far piece c.loop-count.reader c.feed.new.self used read.0 c.loop-count.invariant.2 c.in-Ok-feed.ensures.leads read.1)
+    (ap (λ (r : Reply). let h : Heard = Ok (Some r) in h)
+    (reply_in piece used (is_alone c.feed.new.self) read.0 c.whole.result c.in-Ok-feed.ensures.used (c.in-Ok-feed.ensures.alone c.if-progress.true c.loop-count.invariant.3) read.2)))
 
 pub loop-count-preserved : goal.loop-count-preserved
 loop-count-preserved g c =

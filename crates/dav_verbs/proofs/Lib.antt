@@ -1,0 +1,2 @@
+pub mod CleanTags
+pub mod SeenLemmas

@@ -1,0 +1,5 @@
+pub mod Only
+pub mod Precondition
+pub mod Seen
+pub mod Retry
+pub mod Outcome
