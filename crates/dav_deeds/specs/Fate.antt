@@ -3,9 +3,9 @@ use Rattle.std.specs.Prelude.{◌≡◌, ℕ, ◌+◌, List, [], ◌∷◌, ◌+
 use Rattle.dav_text.specs.Path.{PathParts}
 use Rattle.dav_text.specs.declared.tag.Seen.{Seen}
 use Rattle.dav_store.specs.declared.body_id.BodyId.{BodyId}
-use Rattle.dav_index.specs.Items.{same_path, entry_at}
+use Rattle.dav_index.specs.Item.{Item}
+use Rattle.dav_index.specs.Items.{same_path}
 use Rattle.dav_index.specs.Tables.{has_file, queued_body, queued_at}
-use Rattle.dav_index.specs.declared.entry.Entry.{Entry}
 use Rattle.dav_index.specs.declared.lost.LostItem.{LostItem}
 use Rattle.dav_index.specs.declared.table.Table.{Table}
 use Rattle.dav_deeds.specs.declared.answer.Flight.{Flight}
@@ -79,16 +79,13 @@ abbrev pub story : DeskTable → List Step → PathParts → Story
 story opening steps path =
     told_on path (record { last = queued_at path opening.index.entries; fate = Queued; job = opening.job; count = 0 }) steps
 
--- the job has the body and what was known of the file in this entry
-pub record IsOfEntry (flight : Flight) (entry : Entry) : Type 0 where
-  pub body_is : queued_body entry ≡ Some flight.body
-  pub seen_is : entry.seen ≡ flight.seen
-
--- the job is that of the entry of its path
+-- the job is of an entry of the table, and has its path, its queued body, and what it says is known
 pub record IsOfTable (flight : Flight) (t : Table) : Type 0 where
-  pub entry : Entry
-  pub entry_is : entry_at flight.path t.entries ≡ Some entry
-  pub of_entry : IsOfEntry flight entry
+  pub item : Item
+  pub among : Contains t.entries item
+  pub path_is : item.path ≡ flight.path
+  pub body_is : queued_body item.entry ≡ Some flight.body
+  pub seen_is : item.entry.seen ≡ flight.seen
 
 -- the job was given in one of these steps, with what the table before that step had of its path
 pub record IsTaken (opening : DeskTable) (steps : List Step) (flight : Flight) : Type 0 where
