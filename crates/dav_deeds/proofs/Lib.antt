@@ -1,0 +1,5 @@
+pub mod Paths
+pub mod Entries
+pub mod Queued
+pub mod Fits
+pub mod Taking

@@ -1,0 +1,13 @@
+//! The deeds of a desk: what it is asked, what each ask comes to in its table, and what became of
+//! the bytes that were closed last of each path.
+#![tactic(auto)]
+
+mod answer;
+mod ask;
+mod deed;
+mod fault;
+
+pub use answer::{Answer, Fated, Flight, Job, Told};
+pub use ask::{Ask, Done, Who};
+pub use deed::{Deed, Mark, Step, Trace};
+pub use fault::DeskFault;
