@@ -1,2 +1,3 @@
 pub mod Standing
 pub mod StartLemmas
+pub mod DueLemmas

@@ -1,14 +1,16 @@
 -- Rows and bodies while device calls go on.
-use Rattle.std.proofs.Common.{◌≡◌, ◌⊎◌, inl, inr, ℕ, ◌+◌, ◌≤◌, List, [], ◌∷◌, ◌++◌, length, take, Option, Some, None, refl, sym, ◌∙◌, ap, subst, arith}
+use Rattle.std.proofs.Common.{◌≡◌, ◌⊎◌, inl, inr, ℕ, ◌+◌, ◌<◌, ◌≤◌, List, [], ◌∷◌, ◌++◌, length, get_or, take, Option, Some, None, refl, sym, ◌∙◌, ap, subst, arith}
 use Rattle.std.proofs.lemmas.List.{take_all}
 use Rattle.std.proofs.lemmas.Bool.{cases_lt}
-use Rattle.std.specs.List.{Contains}
+use Rattle.std.proofs.lemmas.List.Elements.{Contains-get_or}
+use Rattle.std.specs.List.{Contains, All}
 use Rattle.dav_disk.specs.Disk.{Doubt, IsOutcome, IsImage, settled, Touches, LeavesOnly}
 use Rattle.dav_disk.proofs.Outcomes.{settled_is}
+use Rattle.dav_disk.proofs.Stretch.{touches_join, touches_wider}
 use Rattle.dav_store.specs.Body.{id_of}
-use Rattle.dav_store.specs.Rows.{Spells, IsAtRest, IsBeforeOrAfter}
+use Rattle.dav_store.specs.Rows.{Spells, IsAtRest, IsReady, IsBeforeOrAfter}
 use Rattle.dav_store.specs.declared.body_id.BodyId.{BodyId}
-use Rattle.dav_cache.specs.Stands.{EachBody, IsGiven, IsIn, IsHeld, Stands, IsSafe, EachImage, StandsEither, IsFile, IsAdding}
+use Rattle.dav_cache.specs.Stands.{EachBody, IsGiven, IsIn, IsHeld, Stands, IsSafe, EachImage, StandsEither, IsFile, IsAdding, Spares}
 
 -- a stretch of calls behind another
 pub images_join : {from mid to : ℕ} {a b : ℕ → ℕ → Doubt} (P : (ℕ → List ℕ) → Type 0) → EachImage a from mid P → ((k f : ℕ) → k ≤ mid → b k f ≡ a k f) → EachImage b mid to P → EachImage b from to P
@@ -125,10 +127,10 @@ module _ {from to : ℕ} {old new : ℕ → ℕ → Doubt} (file : ℕ) (fresh :
           (subst (λ (n : ℕ). 2 ≤ n) (sym same) apart, subst (λ (n : ℕ). new to n ≡ settled bytes) (sym same) durable)
 
 -- a file of no body is emptied
-module _ {from to : ℕ} {old new : ℕ → ℕ → Doubt} (file : ℕ) (freed : Option ℕ) (touches : Touches (λ f. f ≡ file) from to old new) (is_freed : freed ≡ Some file) (apart : 2 ≤ file)
-    (rows : List (List ℕ)) (holds : List BodyId) (bodies : ℕ → List ℕ) (end : ℕ) (seen : ℕ → List ℕ) (spared : EachBody holds (λ id. IsFile freed id.file → ⊥)) (safe : IsSafe rows holds bodies end seen (old from)) where
+module _ {from to : ℕ} {old new : ℕ → ℕ → Doubt} (file : ℕ) (freed : List ℕ) (touches : Touches (λ f. f ≡ file) from to old new) (among : Contains freed file) (apart : 2 ≤ file)
+    (rows : List (List ℕ)) (holds : List BodyId) (bodies : ℕ → List ℕ) (end : ℕ) (seen : ℕ → List ℕ) (spared : Spares freed holds) (safe : IsSafe rows holds bodies end seen (old from)) where
   off_freed : EachBody holds (λ id. id.file ≡ file → ⊥)
-  off_freed id named same = spared id named (subst (λ (o : Option ℕ). IsFile o id.file) (sym is_freed) same)
+  off_freed id named same = spared id named (subst (Contains freed) (sym same) among)
 
   off_head : 0 ≡ file → ⊥
   off_head same = absurd (omega (arith, same, apart))
@@ -138,3 +140,23 @@ module _ {from to : ℕ} {old new : ℕ → ℕ → Doubt} (file : ℕ) (freed :
 
   pub free_safe : (now : ℕ → List ℕ) → ((f : ℕ) → (f ≡ file → ⊥) → now f ≡ seen f) → IsSafe rows holds bodies end now (new to)
   free_safe now others = safe_still touches holds bodies off_freed safe.kept rows end seen safe.index off_head now (others 0 off_head)
+
+-- the next of the files that are emptied
+pub next_file : (freed : List ℕ) (i : ℕ) → All (λ f. 2 ≤ f) freed → i < length freed → Contains freed (get_or freed i 0) × (2 ≤ get_or freed i 0)
+next_file freed i all lt = (Contains-get_or freed i 0 lt, all i 0 lt)
+
+pub touches_file : {from mid to : ℕ} {old a b : ℕ → ℕ → Doubt} (freed : List ℕ) (file : ℕ) → Touches (Contains freed) from mid old a → Contains freed file → Touches (λ f. f ≡ file) mid to a b → Touches (Contains freed) from to old b
+touches_file freed file so_far among next = touches_join so_far (touches_wider next (λ f same. subst (Contains freed) (sym same) among))
+
+pub free_goes : {from mid to : ℕ} {a b : ℕ → ℕ → Doubt} (file : ℕ) (freed : List ℕ) (among : Contains freed file) (apart : 2 ≤ file) (next : Touches (λ f. f ≡ file) mid to a b)
+    (rows : List (List ℕ)) (holds : List BodyId) (bodies : ℕ → List ℕ) (end : ℕ) (seen now : ℕ → List ℕ) → ((f : ℕ) → (f ≡ file → ⊥) → now f ≡ seen f) → Spares freed holds
+    → IsSafe rows holds bodies end seen (a mid) × EachImage a from mid (Stands rows holds bodies) → IsSafe rows holds bodies end now (b to) × EachImage b from to (Stands rows holds bodies)
+free_goes file freed among apart next rows holds bodies end seen now others spared was = (
+  free_safe file freed next among apart rows holds bodies end seen spared was.0 now others,
+  images_join (Stands rows holds bodies) was.1 next.before (free_stands file freed next among apart rows holds bodies end seen spared was.0),
+)
+
+pub ready_goes : {mid to : ℕ} {a b : ℕ → ℕ → Doubt} (file : ℕ) → 2 ≤ file → Touches (λ f. f ≡ file) mid to a b → (end : ℕ) (seen now : ℕ → List ℕ) → ((f : ℕ) → (f ≡ file → ⊥) → now f ≡ seen f) → IsReady end (seen 0) (a mid 0) → IsReady end (now 0) (b to 0)
+ready_goes {mid} {to} file apart next end seen now others ready =
+    let off : 0 ≡ file → ⊥ = λ same. absurd (omega (arith, same, apart)) in
+    (ready.0, rest_moves ready.1 (others 0 off) (next.others to 0 next.later (omega arith) off))

@@ -1,3 +1,4 @@
 pub mod Stands
 pub mod Recovers
 pub mod Opening
+pub mod Due

@@ -48,8 +48,12 @@ IsFile None f = ⊥
 IsFile (Some file) f = f ≡ file
 
 -- the index, the file of a new body, or one that is emptied
-abbrev pub IsWritten : Option ℕ → Option ℕ → ℕ → Type 0
-IsWritten fresh freed f = (f ≡ 0) ⊎ (IsFile fresh f ⊎ IsFile freed f)
+abbrev pub IsWritten : Option ℕ → List ℕ → ℕ → Type 0
+IsWritten fresh freed f = (f ≡ 0) ⊎ (IsFile fresh f ⊎ Contains freed f)
+
+-- no body of the list is kept in one of these files
+abbrev pub Spares : List ℕ → List BodyId → Type 0
+Spares freed holds = EachBody holds (λ id. Contains freed id.file → ⊥)
 
 -- What a new row and a new body add. The file for the new body is that of none from before, and its bytes are the ones given
 -- for that file; a body from after is one from before, or the new one.
@@ -58,7 +62,7 @@ pub record IsAdding (holds holds_after : List BodyId) (bodies : ℕ → List ℕ
   pub apart : EachBody holds (λ id. IsFile fresh id.file → ⊥)
   pub named : EachBody holds_after (λ id. Contains holds id ⊎ (IsFile fresh id.file × (id ≡ id_of id.file bytes)))
 
--- the same, and a file is emptied that is none of a body from after
-pub record IsCommit (holds holds_after : List BodyId) (bodies : ℕ → List ℕ) (fresh : Option ℕ) (bytes : List ℕ) (freed : Option ℕ) : Type 0 where
+-- the same, and files are emptied that are none of a body from after
+pub record IsCommit (holds holds_after : List BodyId) (bodies : ℕ → List ℕ) (fresh : Option ℕ) (bytes : List ℕ) (freed : List ℕ) : Type 0 where
   pub adding : IsAdding holds holds_after bodies fresh bytes
-  pub freed_apart : EachBody holds_after (λ id. IsFile freed id.file → ⊥)
+  pub spared : Spares freed holds_after

@@ -1,36 +1,20 @@
-use Rattle.std.proofs.Common.{ℕ, List, [], ◌∷◌, ◌++◌, inr}
-use Rattle.dav_cache.specs.Stands.{StandsEither}
-use Rattle.dav_cache.proofs.Standing.{images_join, row_images, row_done}
+use Rattle.std.proofs.Common.{ℕ}
+use Rattle.dav_index.specs.Bounds.{bodies_of}
+use Rattle.dav_cache.specs.Recovers.{rows_of}
+use Rattle.dav_cache.proofs.DueLemmas.{on_ok_then, on_err_then, due_done, due_before, due_either}
 use Rattle.dav_cache.proofs.commit.commit.Goals as goal
 
-pub returns-in-Err-append-clause-any_moment : goal.returns-in-Err-append-clause-any_moment
-returns-in-Err-append-clause-any_moment g c h rows holds holds_after given is safe =
-    let end = c.args.journal.now.end in
-    let held = c.in-Ok.ensures.held h rows holds holds_after given end is.adding safe in
-    row_images rows c.args.row.now holds holds_after given (c.keep.ensures.any_moment h rows holds holds_after given end is.adding safe) (c.append.ensures.touches h) held.0.kept held.1 (c.append.ensures.any_moment h rows held.0.index)
+pub returns-clause-consistent : goal.returns-clause-consistent
+returns-clause-consistent g c h = on_ok_then c.commit_rows.result (c.commit_rows.ensures.safe h) (λ safe url before after r given due is.
+    due_done due is c.commit_rows.new.journal.end (g.D.Disk.seen c.commit_rows.new.disk) (g.D.Disk.past c.commit_rows.new.disk (g.D.Disk.moment c.commit_rows.new.disk))
+    (safe (rows_of url is.records) (bodies_of before) (bodies_of after) given due.bodies_are is.safe))
 
-pub returns-in-Ok-release-clause-safe : goal.returns-in-Ok-release-clause-safe
-returns-in-Ok-release-clause-safe g c h rows holds holds_after given is safe =
-    let held = c.in-Ok.ensures.held h rows holds holds_after given c.args.journal.now.end is.adding safe in
-    let after = row_done (c.append.ensures.touches h) rows c.args.row.now holds holds_after given held.0.kept held.1 c.append.new.self.end (g.D.Disk.seen c.append.new.disk) (c.in-Ok-append.ensures.appended h rows held.0.index) in
-    c.release.ensures.safe h (rows ++ c.args.row.now ∷ []) holds_after given c.append.new.self.end is.freed_apart after
+pub returns-clause-any_moment : goal.returns-clause-any_moment
+returns-clause-any_moment g c h url before after r given due is =
+    due_either due is (g.D.Disk.past c.commit_rows.new.disk) (g.D.Disk.moment c.args.disk.now) (g.D.Disk.moment c.commit_rows.new.disk)
+    (c.commit_rows.ensures.any_moment h (rows_of url is.records) (bodies_of before) (bodies_of after) given due.bodies_are is.safe)
 
-pub returns-in-Ok-release-clause-any_moment : goal.returns-in-Ok-release-clause-any_moment
-returns-in-Ok-release-clause-any_moment g c h rows holds holds_after given is safe =
-    let end = c.args.journal.now.end in
-    let held = c.in-Ok.ensures.held h rows holds holds_after given end is.adding safe in
-    let after = row_done (c.append.ensures.touches h) rows c.args.row.now holds holds_after given held.0.kept held.1 c.append.new.self.end (g.D.Disk.seen c.append.new.disk) (c.in-Ok-append.ensures.appended h rows held.0.index) in
-    images_join (StandsEither rows holds (rows ++ c.args.row.now ∷ []) holds_after given)
-    (row_images rows c.args.row.now holds holds_after given (c.keep.ensures.any_moment h rows holds holds_after given end is.adding safe) (c.append.ensures.touches h) held.0.kept held.1 (c.append.ensures.any_moment h rows held.0.index))
-    (c.release.ensures.touches h).before
-    (λ k image lo hi left. inr (c.release.ensures.any_moment h (rows ++ c.args.row.now ∷ []) holds_after given c.append.new.self.end is.freed_apart after k image lo hi left))
-
-pub returns-in-Err-release-clause-any_moment : goal.returns-in-Err-release-clause-any_moment
-returns-in-Err-release-clause-any_moment g c h rows holds holds_after given is safe =
-    let end = c.args.journal.now.end in
-    let held = c.in-Ok.ensures.held h rows holds holds_after given end is.adding safe in
-    let after = row_done (c.append.ensures.touches h) rows c.args.row.now holds holds_after given held.0.kept held.1 c.append.new.self.end (g.D.Disk.seen c.append.new.disk) (c.in-Ok-append.ensures.appended h rows held.0.index) in
-    images_join (StandsEither rows holds (rows ++ c.args.row.now ∷ []) holds_after given)
-    (row_images rows c.args.row.now holds holds_after given (c.keep.ensures.any_moment h rows holds holds_after given end is.adding safe) (c.append.ensures.touches h) held.0.kept held.1 (c.append.ensures.any_moment h rows held.0.index))
-    (c.release.ensures.touches h).before
-    (λ k image lo hi left. inr (c.release.ensures.any_moment h (rows ++ c.args.row.now ∷ []) holds_after given c.append.new.self.end is.freed_apart after k image lo hi left))
+pub returns-clause-before : goal.returns-clause-before
+returns-clause-before g c h = on_err_then c.commit_rows.result (c.commit_rows.ensures.before h) (λ stop images early url before after r given due is.
+    due_before due is (g.D.Disk.past c.commit_rows.new.disk) (g.D.Disk.moment c.args.disk.now) (g.D.Disk.moment c.commit_rows.new.disk)
+    (images early (rows_of url is.records) (bodies_of before) (bodies_of after) given due.bodies_are is.safe))
