@@ -3,3 +3,4 @@ pub mod Entries
 pub mod Queued
 pub mod Fits
 pub mod Taking
+pub mod Fates
