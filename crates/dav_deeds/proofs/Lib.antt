@@ -4,3 +4,4 @@ pub mod Queued
 pub mod Fits
 pub mod Taking
 pub mod Fates
+pub mod Restart

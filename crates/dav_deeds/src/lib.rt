@@ -12,4 +12,4 @@ pub use answer::{Answer, Fated, Flight, Job, Told};
 pub use ask::{Ask, Done, Who};
 pub use deed::{Deed, Mark, Step, Trace};
 pub use fault::DeskFault;
-pub use laws::last_bytes_are_kept;
+pub use laws::{last_bytes_are_kept, records_are_enough};
