@@ -5,3 +5,6 @@ pub mod Fits
 pub mod Taking
 pub mod Fates
 pub mod Restart
+pub mod Weights
+pub mod Bodies
+pub mod Within

@@ -23,36 +23,36 @@ restarted_entry e = record { seen = e.seen; body = e.body; queued = restarted_wa
 abbrev again : List Item → List Item
 again items = map restarted_item items
 
-head_found : (q : PathParts) (x : Item) (xs : List Item) (b : Bool) → has_path q x ≡ b → entry_at q (x ∷ xs) ≡ (if b then Some x.entry else entry_at q xs)
+pub head_found : (q : PathParts) (x : Item) (xs : List Item) (b : Bool) → has_path q x ≡ b → entry_at q (x ∷ xs) ≡ (if b then Some x.entry else entry_at q xs)
 unfolding entry_at
 head_found q x xs b is = rw is
 
-head_changed : (q : PathParts) (f : Entry → Entry) (x : Item) (xs : List Item) (b : Bool) → has_path q x ≡ b → with_changed q f (x ∷ xs) ≡ (if b then record { path = x.path; entry = f x.entry } ∷ xs else x ∷ with_changed q f xs)
+pub head_changed : (q : PathParts) (f : Entry → Entry) (x : Item) (xs : List Item) (b : Bool) → has_path q x ≡ b → with_changed q f (x ∷ xs) ≡ (if b then record { path = x.path; entry = f x.entry } ∷ xs else x ∷ with_changed q f xs)
 unfolding with_changed
 head_changed q f x xs b is = rw is
 
-head_new : (q : PathParts) (e : Entry) (x : Item) (xs : List Item) (b : Bool) → comes_before q x.path ≡ b → with_new q e (x ∷ xs) ≡ (if b then record { path = q; entry = e } ∷ x ∷ xs else x ∷ with_new q e xs)
+pub head_new : (q : PathParts) (e : Entry) (x : Item) (xs : List Item) (b : Bool) → comes_before q x.path ≡ b → with_new q e (x ∷ xs) ≡ (if b then record { path = q; entry = e } ∷ x ∷ xs else x ∷ with_new q e xs)
 unfolding with_new
 head_new q e x xs b is = rw is
 
-head_without : (q : PathParts) (below : Bool) (x : Item) (xs : List Item) (b : Bool) → goes_with q below x ≡ b → without_entry q below (x ∷ xs) ≡ (if b then without_entry q below xs else x ∷ without_entry q below xs)
+pub head_without : (q : PathParts) (below : Bool) (x : Item) (xs : List Item) (b : Bool) → goes_with q below x ≡ b → without_entry q below (x ∷ xs) ≡ (if b then without_entry q below xs else x ∷ without_entry q below xs)
 unfolding without_entry
 head_without q below x xs true is = rw is
 head_without q below x xs false is = rw is
 
-none_found : (q : PathParts) → entry_at q [] ≡ None
+pub none_found : (q : PathParts) → entry_at q [] ≡ None
 unfolding entry_at
 none_found q = refl
 
-none_changed : (q : PathParts) (f : Entry → Entry) → with_changed q f [] ≡ []
+pub none_changed : (q : PathParts) (f : Entry → Entry) → with_changed q f [] ≡ []
 unfolding with_changed
 none_changed q f = refl
 
-none_new : (q : PathParts) (e : Entry) → with_new q e [] ≡ record { path = q; entry = e } ∷ []
+pub none_new : (q : PathParts) (e : Entry) → with_new q e [] ≡ record { path = q; entry = e } ∷ []
 unfolding with_new
 none_new q e = refl
 
-none_without : (q : PathParts) (below : Bool) → without_entry q below [] ≡ []
+pub none_without : (q : PathParts) (below : Bool) → without_entry q below [] ≡ []
 unfolding without_entry
 none_without q below = refl
 
