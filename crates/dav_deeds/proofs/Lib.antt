@@ -7,4 +7,5 @@ pub mod Fates
 pub mod Restart
 pub mod Weights
 pub mod Bodies
+pub mod Ordered
 pub mod Within

@@ -143,6 +143,15 @@ module _ (q : PathParts) where
       by true is ih = subst (Every (λ (item : Item). R item.path)) (sym (head_changed q f x xs true is)) h
       by false is ih = subst (Every (λ (item : Item). R item.path)) (sym (head_changed q f x xs false is)) (h.0, ih)
 
+-- the entry of a path has what each has
+pub each_found : (q : PathParts) (P : Entry → Type 0) (items : List Item) (old : Entry) → entry_at q items ≡ Some old → EachEntry P items → P old
+each_found q P [] old is h = let no : None ≡ Some old = sym (none_found q) ∙ is in cc
+each_found q P (x ∷ xs) old is h = by (has_path q x) refl (λ at. each_found q P xs old at h.1)
+  where
+    by : (b : Bool) → has_path q x ≡ b → (entry_at q xs ≡ Some old → P old) → P old
+    by true on ih = let at : Some x.entry ≡ Some old = sym (head_found q x xs true on) ∙ is in let same : x.entry ≡ old = cc in subst P same h.0
+    by false off ih = ih (sym (head_found q x xs false off) ∙ is)
+
 pub length_weight : (items : List Item) → length items ≡ weight (λ e. 1) items
 length_weight [] = refl
 length_weight (x ∷ xs) =

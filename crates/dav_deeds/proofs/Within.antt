@@ -11,7 +11,7 @@ use Rattle.dav_store.specs.declared.body_id.BodyId.{BodyId}
 use Rattle.dav_index.specs.Item.{Item}
 use Rattle.dav_index.specs.Items.{Every, has_path, same_path, comes_before, IsOrdered, PathsDiffer, IsMap, entry_at, with_changed, with_new, with_entry_for, with_entry, goes_with, without_entry}
 use Rattle.dav_index.specs.Records.{IsBare, IsNoted}
-use Rattle.dav_index.specs.Tables.{fresh_waiting, waiting_body, queued_body, queued_at, closed_seen, closed_entry, has_file, sent_entry, lost_as, replay, waiting_so}
+use Rattle.dav_index.specs.Tables.{fresh_waiting, waiting_body, queued_body, queued_at, closed_seen, closed_entry, has_file, sent_entry, entries_after_loss, lost_as, replay, waiting_so}
 use Rattle.dav_index.specs.Bounds.{bodies_of, len_of, is_queued, queued_count, queued_bytes, HasBody, IsWithin}
 use Rattle.dav_index.specs.declared.entry.Entry.{Entry}
 use Rattle.dav_index.specs.declared.entry.Waiting.{Waiting}
@@ -22,7 +22,8 @@ use Rattle.dav_index.specs.declared.table.Table.{Table}
 use Rattle.dav_deeds.specs.Effects.{Wait, waited}
 use Rattle.dav_deeds.proofs.Paths.{by_test}
 use Rattle.dav_deeds.proofs.Restart.{head_changed, head_without, none_changed, none_without}
-use Rattle.dav_deeds.proofs.Weights.{weight, EachEntry, changed_weight, changed_less, new_weight, without_weight, going_weight, changed_each, new_each, without_each, changed_paths, length_weight}
+use Rattle.dav_deeds.proofs.Ordered.{new_is_map}
+use Rattle.dav_deeds.proofs.Weights.{weight, EachEntry, each_found, changed_weight, changed_less, new_weight, without_weight, going_weight, changed_each, new_each, without_each, changed_paths, length_weight}
 use Rattle.dav_deeds.proofs.Bodies.{of_body, of_entry, in_file, bodies_weight, OfBody, EachBody, each_body, bodies_each, every_append, every_weaker, none_beyond}
 
 -- what the bounds ask of an entry
@@ -222,3 +223,160 @@ forgot_within t q locks below w =
     let lost_same : t.next_lost ≡ max t.next_lost 0 = omega arith in
     subst (λ f. P f (max t.next_lost 0)) file_same (subst (λ l. P t.next_file l) lost_same
     (less_within t new (t.records + 1) (gone_less q below t.entries) w))
+
+-- what the entry that a path had weighs
+abbrev pub old_weight : (Entry → ℕ) → Option Entry → ℕ
+old_weight g None = 0
+old_weight g (Some old) = g old
+
+-- the entries with one in the place of what a path had
+pub record Puts (o : Option Entry) (e : Entry) (xs ys : List Item) : Type 1 where
+  pub in_order : IsMap ys
+  pub each : (P : Entry → Type 0) → P e → EachEntry P xs → EachEntry P ys
+  pub sum : (g : Entry → ℕ) → weight g ys + old_weight g o ≡ weight g xs + g e
+
+puts_by : (q : PathParts) (e : Entry) (items : List Item) → IsBare q → IsMap items → (o : Option Entry) → entry_at q items ≡ o → Puts o e items (with_entry_for o q e items)
+puts_by q e items bare m None is = record {
+  in_order = new_is_map q e items bare is m;
+  each = λ P new h. new_each q e P new items h;
+  sum = λ g. let w : weight g (with_new q e items) ≡ g e + weight g items = new_weight q e g items in omega arith;
+}
+puts_by q e items bare m (Some old) is = record {
+  in_order = changed_is_map q (λ _. e) items m;
+  each = λ P new h. changed_each q (λ _. e) P (λ _ _. new) items h;
+  sum = λ g. changed_weight q (λ _. e) g old items is;
+}
+
+-- the entry whose body is queued
+pub record IsQueuedEntry (q : PathParts) (items : List Item) (b : BodyId) (old : Entry) : Type 0 where
+  pub found : entry_at q items ≡ Some old
+  pub body : old.body ≡ Some b
+  pub one : queued_one old ≡ 1
+
+queued_parts : (q : Option Waiting) (o : Option BodyId) (b : BodyId) → waiting_body q o ≡ Some b → (o ≡ Some b) × ◌≡◌ {A = ℕ} (if is_some q then 1 else 0) 1
+queued_parts None o b is = cc
+queued_parts (Some w) o b is = (is, refl)
+
+pub queued_entry : (q : PathParts) (items : List Item) (b : BodyId) → queued_at q items ≡ Some b → (old : Entry) × IsQueuedEntry q items b old
+queued_entry q items b is = by (entry_at q items) refl is
+  where
+    by : (o : Option Entry) → entry_at q items ≡ o → option_and_then queued_body o ≡ Some b → (old : Entry) × IsQueuedEntry q items b old
+    by None found is = cc
+    by (Some old) found is =
+        let parts : (old.body ≡ Some b) × (queued_one old ≡ 1) = queued_parts old.queued old.body b is in
+        (old, record { found = found; body = parts.0; one = parts.1 })
+
+abbrev one_if : Bool → ℕ
+one_if t = if t then 1 else 0
+
+-- 1 for lost bytes with this number
+abbrev numbered : ℕ → LostItem → ℕ
+numbered n x = if nat_eq x.number n then 1 else 0
+
+count_push : (n m : ℕ) (ls : List LostItem) (l : LostItem) → sum_by (numbered n) (ls ++ l ∷ []) ≡ sum_by (numbered n) ls + numbered n l
+count_push n m ls l = sum_by_push (numbered n) ls l
+
+none_numbered : (n : ℕ) (ls : List LostItem) → Every (λ (x : LostItem). x.number < n) ls → sum_by (numbered n) ls ≡ 0
+none_numbered n [] h = refl
+none_numbered n (l ∷ ls) h =
+    let off : nat_eq l.number n ≡ false = let k : l.number < n = h.0 in grind (arith, nat_tests) in
+    let head : sum_by (numbered n) (l ∷ ls) ≡ numbered n l + sum_by (numbered n) ls = sum_by-cons (numbered n) l ls in
+    let zero : numbered n l ≡ 0 = ap one_if off in
+    let ih : sum_by (numbered n) ls ≡ 0 = none_numbered n ls h.1 in
+    omega arith
+
+-- the queued bytes of a path are lost
+module _ (t : Table) (q : PathParts) (b : BodyId) (bare : IsBare q) (w : IsWithin t) where
+  abbrev lost_item : LostItem
+  lost_item = record { number = t.next_lost; path = q; body = b }
+
+  abbrev lost_entries : List Item
+  lost_entries = without_entry q false t.entries
+
+  abbrev lost_table : Table
+  lost_table = record t { entries = lost_entries; lost = t.lost ++ lost_item ∷ []; records = t.records + 1; next_lost = t.next_lost + 1 }
+
+  module _ (old : Entry) (at : IsQueuedEntry q t.entries b old) where
+    fewer : (g : Entry → ℕ) → weight g lost_entries + g old ≤ weight g t.entries
+    fewer g =
+        let both : weight g lost_entries + weight g (filter (goes_with q false) t.entries) ≡ weight g t.entries = without_weight q false g t.entries in
+        let own : g old ≤ weight g (filter (goes_with q false) t.entries) = going_weight q g old t.entries at.found in
+        omega arith
+
+    lost_bodies : (Q : BodyId → Type 0) → Every Q (bodies_of t) → Every Q (bodies_of lost_table)
+    lost_bodies Q h =
+        let e : EachBody Q t.entries t.lost = each_body Q t h in
+        bodies_each Q lost_table (record {
+          kept = without_each q false (λ (x : Item). OfBody Q x.entry) t.entries e.kept;
+          gone = every_append (λ (l : LostItem). Q l.body) t.lost (lost_item ∷ []) e.gone (own_body Q e.kept, tt);
+        })
+      where
+        own_body : (Q : BodyId → Type 0) → EachEntry (OfBody Q) t.entries → Q b
+        own_body Q h = each_found q (OfBody Q) t.entries old at.found h b at.body
+
+    one_each : (n : ℕ) → count_by (λ (x : LostItem). nat_eq x.number n) (t.lost ++ lost_item ∷ []) ≤ 1
+    one_each n = by (nat_eq t.next_lost n) refl
+      where
+        by : (c : Bool) → nat_eq t.next_lost n ≡ c → count_by (λ (x : LostItem). nat_eq x.number n) (t.lost ++ lost_item ∷ []) ≤ 1
+        by true is =
+            let same : t.next_lost ≡ n = grind (arith, nat_tests) in
+            let none : sum_by (numbered n) t.lost ≡ 0 = none_numbered n t.lost (subst (λ m. Every (λ (x : LostItem). x.number < m) t.lost) same w.numbers_known) in
+            let push : sum_by (numbered n) (t.lost ++ lost_item ∷ []) ≡ sum_by (numbered n) t.lost + numbered n lost_item = count_push n 0 t.lost lost_item in
+            let one : numbered n lost_item ≡ 1 = ap one_if is in
+            let l : sum_by (numbered n) (t.lost ++ lost_item ∷ []) ≤ 1 = omega arith in l
+        by false is =
+            let was : sum_by (numbered n) t.lost ≤ 1 = w.numbers_differ n in
+            let push : sum_by (numbered n) (t.lost ++ lost_item ∷ []) ≡ sum_by (numbered n) t.lost + numbered n lost_item = count_push n 0 t.lost lost_item in
+            let zero : numbered n lost_item ≡ 0 = ap one_if is in
+            let l : sum_by (numbered n) (t.lost ++ lost_item ∷ []) ≤ 1 = omega arith in l
+
+    table_within : IsWithin lost_table
+    table_within = record {
+      in_order = without_is_map q false t.entries w.in_order;
+      known = without_each q false (λ (x : Item). IsKnown x.entry) t.entries w.known;
+      queued_have_bodies = without_each q false (λ (x : Item). KeepsBody x.entry) t.entries w.queued_have_bodies;
+      lost_paths = every_append (λ (l : LostItem). IsBare l.path) t.lost (lost_item ∷ []) w.lost_paths (bare, tt);
+      few_known =
+          let less : IsLess t.entries lost_entries = gone_less q false t.entries in
+          omega (arith, less.count, w.few_known);
+      few_kept =
+          let f : weight queued_one lost_entries + queued_one old ≤ weight queued_one t.entries = fewer queued_one in
+          let len : length (t.lost ++ lost_item ∷ []) ≡ length t.lost + 1 = length-append t.lost (lost_item ∷ []) in
+          let was : weight queued_one t.entries + length t.lost ≤ 4096 = w.few_kept in
+          let l : weight queued_one lost_entries + length (t.lost ++ lost_item ∷ []) ≤ 4096 = omega (arith, at.one) in l;
+      few_bytes =
+          let f : weight bytes_in lost_entries + bytes_in old ≤ weight bytes_in t.entries = fewer bytes_in in
+          let was : weight bytes_in t.entries ≤ 1073741824 = w.few_bytes in
+          let l : weight bytes_in lost_entries ≤ 1073741824 = omega arith in l;
+      short_bodies = lost_bodies (λ (b : BodyId). b.len ≤ 8388608) w.short_bodies;
+      files_differ = λ file.
+          let before : sum_by (in_file file) (bodies_of t) ≡ weight (of_entry (in_file file)) t.entries + sum_by (λ (l : LostItem). in_file file l.body) t.lost = bodies_weight (in_file file) t in
+          let now : sum_by (in_file file) (bodies_of lost_table) ≡ weight (of_entry (in_file file)) lost_entries + sum_by (λ (l : LostItem). in_file file l.body) (t.lost ++ lost_item ∷ []) = bodies_weight (in_file file) lost_table in
+          let push : sum_by (λ (l : LostItem). in_file file l.body) (t.lost ++ lost_item ∷ []) ≡ sum_by (λ (l : LostItem). in_file file l.body) t.lost + in_file file b = sum_by_push (λ (l : LostItem). in_file file l.body) t.lost lost_item in
+          let f : weight (of_entry (in_file file)) lost_entries + of_entry (in_file file) old ≤ weight (of_entry (in_file file)) t.entries = fewer (of_entry (in_file file)) in
+          let own : of_entry (in_file file) old ≡ in_file file b = ap (of_body (in_file file)) at.body in
+          let one : sum_by (in_file file) (bodies_of t) ≤ 1 = w.files_differ file in
+          let l : sum_by (in_file file) (bodies_of lost_table) ≤ 1 = omega arith in l;
+      files_begin = lost_bodies (λ (b : BodyId). 2 ≤ b.file) w.files_begin;
+      files_known = lost_bodies (λ (b : BodyId). b.file < t.next_file) w.files_known;
+      files_left = w.files_left;
+      numbers_differ = one_each;
+      numbers_known = every_append (λ (l : LostItem). l.number < t.next_lost + 1) t.lost (lost_item ∷ [])
+          (every_weaker (λ (l : LostItem). l.number < t.next_lost) (λ (l : LostItem). l.number < t.next_lost + 1) t.lost (λ l k. omega arith) w.numbers_known) (omega arith, tt);
+      numbers_begin = omega (arith, w.numbers_begin);
+      room_for_lost =
+          let f : weight queued_one lost_entries + queued_one old ≤ weight queued_one t.entries = fewer queued_one in
+          let was : t.next_lost + weight queued_one t.entries < t.next_file = w.room_for_lost in
+          let l : t.next_lost + 1 + weight queued_one lost_entries < t.next_file = omega (arith, at.one) in l;
+    }
+
+pub lost_within : (t : Table) (q : PathParts) (b : BodyId) → queued_at q t.entries ≡ Some b → IsBare q → IsWithin t → IsWithin (replay t (Lost t.next_lost q false))
+lost_within t q b is bare w =
+    let at : (old : Entry) × IsQueuedEntry q t.entries b old = queued_entry q t.entries b is in
+    let same : lost_table t q b bare w ≡ record t { entries = lost_entries t q b bare w; lost = t.lost ++ lost_item t q b bare w ∷ []; records = t.records + 1; next_file = max t.next_file 0; next_lost = max t.next_lost (t.next_lost + 1) } =
+    let f : t.next_file ≡ max t.next_file 0 = omega arith in
+    let l : t.next_lost + 1 ≡ max t.next_lost (t.next_lost + 1) = omega arith in
+    ap (λ n. record t { entries = lost_entries t q b bare w; lost = t.lost ++ lost_item t q b bare w ∷ []; records = t.records + 1; next_file = n; next_lost = t.next_lost + 1 }) f
+    ∙ ap (λ n. record t { entries = lost_entries t q b bare w; lost = t.lost ++ lost_item t q b bare w ∷ []; records = t.records + 1; next_file = max t.next_file 0; next_lost = n }) l in
+    let P : Option BodyId → Type 0 = λ (o : Option BodyId). IsWithin (record t { entries = entries_after_loss q false (t.records + 1) t.entries o; lost = t.lost ++ lost_as t.next_lost q o; records = t.records + 1; next_file = max t.next_file 0; next_lost = max t.next_lost (t.next_lost + 1) }) in
+    subst P (sym is) (subst IsWithin same (table_within t q b bare w at.0 at.1))
