@@ -9,3 +9,4 @@ pub mod Weights
 pub mod Bodies
 pub mod Ordered
 pub mod Within
+pub mod Closing

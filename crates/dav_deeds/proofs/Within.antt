@@ -235,7 +235,7 @@ pub record Puts (o : Option Entry) (e : Entry) (xs ys : List Item) : Type 1 wher
   pub each : (P : Entry → Type 0) → P e → EachEntry P xs → EachEntry P ys
   pub sum : (g : Entry → ℕ) → weight g ys + old_weight g o ≡ weight g xs + g e
 
-puts_by : (q : PathParts) (e : Entry) (items : List Item) → IsBare q → IsMap items → (o : Option Entry) → entry_at q items ≡ o → Puts o e items (with_entry_for o q e items)
+pub puts_by : (q : PathParts) (e : Entry) (items : List Item) → IsBare q → IsMap items → (o : Option Entry) → entry_at q items ≡ o → Puts o e items (with_entry_for o q e items)
 puts_by q e items bare m None is = record {
   in_order = new_is_map q e items bare is m;
   each = λ P new h. new_each q e P new items h;
@@ -266,7 +266,7 @@ queued_entry q items b is = by (entry_at q items) refl is
         let parts : (old.body ≡ Some b) × (queued_one old ≡ 1) = queued_parts old.queued old.body b is in
         (old, record { found = found; body = parts.0; one = parts.1 })
 
-abbrev one_if : Bool → ℕ
+abbrev pub one_if : Bool → ℕ
 one_if t = if t then 1 else 0
 
 -- 1 for lost bytes with this number
