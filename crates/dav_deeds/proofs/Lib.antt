@@ -10,3 +10,4 @@ pub mod Bodies
 pub mod Ordered
 pub mod Within
 pub mod Closing
+pub mod Flying
