@@ -11,3 +11,4 @@ pub mod Ordered
 pub mod Within
 pub mod Closing
 pub mod Flying
+pub mod Sounds
