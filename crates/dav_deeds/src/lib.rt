@@ -6,8 +6,10 @@ mod answer;
 mod ask;
 mod deed;
 mod fault;
+mod laws;
 
 pub use answer::{Answer, Fated, Flight, Job, Told};
 pub use ask::{Ask, Done, Who};
 pub use deed::{Deed, Mark, Step, Trace};
 pub use fault::DeskFault;
+pub use laws::{last_bytes_are_kept, records_are_enough};
