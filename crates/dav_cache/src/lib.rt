@@ -2,3 +2,6 @@
 #![tactic(auto)]
 
 mod commit;
+mod recorder;
+
+pub use recorder::Recorder;
