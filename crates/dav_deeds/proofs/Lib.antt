@@ -12,3 +12,4 @@ pub mod Within
 pub mod Closing
 pub mod Flying
 pub mod Sounds
+pub mod Naming

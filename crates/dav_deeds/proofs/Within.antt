@@ -303,7 +303,7 @@ module _ (t : Table) (q : PathParts) (b : BodyId) (bare : IsBare q) (w : IsWithi
         let own : g old ≤ weight g (filter (goes_with q false) t.entries) = going_weight q g old t.entries at.found in
         omega arith
 
-    lost_bodies : (Q : BodyId → Type 0) → Every Q (bodies_of t) → Every Q (bodies_of lost_table)
+    pub lost_bodies : (Q : BodyId → Type 0) → Every Q (bodies_of t) → Every Q (bodies_of lost_table)
     lost_bodies Q h =
         let e : EachBody Q t.entries t.lost = each_body Q t h in
         bodies_each Q lost_table (record {
