@@ -8,3 +8,6 @@ pub mod LostView
 pub mod Tables
 pub mod Bounds
 pub mod Queries
+pub mod Left
+pub mod Reading
+pub mod Flawed

@@ -4,9 +4,13 @@
 mod entries;
 mod entry;
 mod fault;
+mod flaw;
 mod lost;
+mod read;
+mod reader;
 mod record;
 mod table;
+mod write;
 
 pub use entries::{Entries, Held};
 pub use entry::{Entry, Waiting};
@@ -14,3 +18,6 @@ pub use fault::RecordFault;
 pub use lost::{LostItem, LostList};
 pub use record::Record;
 pub use table::Table;
+
+#[cfg(test)]
+mod tests;
