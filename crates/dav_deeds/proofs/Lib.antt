@@ -13,3 +13,4 @@ pub mod Closing
 pub mod Flying
 pub mod Sounds
 pub mod Naming
+pub mod Released
