@@ -14,3 +14,4 @@ pub mod Flying
 pub mod Sounds
 pub mod Naming
 pub mod Released
+pub mod Resting

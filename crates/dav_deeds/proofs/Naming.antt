@@ -1,20 +1,12 @@
 -- Which bodies a table names after a deed, and that no file of them is released.
-use Rattle.std.proofs.Common.{◌≡◌, ◌≢◌, ◌⊎◌, inl, inr, ℕ, zero, suc, ◌+◌, ◌<◌, ◌≤◌, max, Bool, true, false, not, ◌&&◌, List, [], ◌∷◌, ◌++◌, length, Option, Some, None, is_some, nat_eq, Contains, refl, sym, ◌∙◌, ap, subst, arith, sum_by, length-append, if◌then◌else◌}
-use Rattle.std.specs.Prelude.{filter, map, option_map, option_and_then}
-use Rattle.std.specs.List.{filter_map}
-use Rattle.std.proofs.lemmas.Bool.{false≢true, eqb-true, eq-eqb}
-use Rattle.std.proofs.lemmas.List.Sums.{sum_by-cons, sum_by_push}
-use Rattle.std.proofs.lemmas.List.Elements.{Contains-append_left, Contains-append_right, Contains-append_cases}
+use Rattle.std.proofs.Common.{◌≡◌, ◌⊎◌, inl, inr, ℕ, suc, ◌+◌, max, Bool, true, false, List, [], ◌∷◌, ◌++◌, Option, Some, None, Contains, refl, sym, subst, arith}
 use Rattle.dav_text.specs.Path.{PathParts, IsPath}
 use Rattle.dav_store.specs.declared.body_id.BodyId.{BodyId}
 use Rattle.dav_index.specs.Item.{Item}
-use Rattle.dav_index.specs.Items.{Every, same_path, entry_at, with_changed, with_entry, goes_with, without_entry}
-use Rattle.dav_index.specs.Tables.{waiting_body, queued_body, queued_at, has_file, closed_entry, sent_entry, entries_after_loss, lost_as, replay, restarted_waiting, restarted_item, restarted, waiting_so}
-use Rattle.dav_index.specs.Bounds.{bodies_of, is_queued, len_of, IsWithin}
+use Rattle.dav_index.specs.Items.{Every, entry_at, with_changed, with_entry, without_entry}
+use Rattle.dav_index.specs.Tables.{queued_at, closed_entry, sent_entry, entries_after_loss, lost_as, replay, waiting_so}
+use Rattle.dav_index.specs.Bounds.{bodies_of}
 use Rattle.dav_index.specs.declared.entry.Entry.{Entry}
-use Rattle.dav_index.specs.declared.entry.Waiting.{Waiting}
-use Rattle.dav_index.specs.declared.lost.LostItem.{LostItem}
-use Rattle.dav_index.specs.declared.record.Record.{Record}
 use Rattle.dav_index.specs.declared.record.Record.TheVariants as records
 use Rattle.dav_index.specs.declared.table.Table.{Table}
 use Rattle.dav_deeds.specs.declared.answer.Fated.{Fated}
@@ -26,17 +18,14 @@ use Rattle.dav_deeds.specs.declared.deed.Deed.{Deed}
 use Rattle.dav_deeds.specs.declared.deed.Deed.TheVariants.{Store, Forget, Take, Settle, Stop}
 use Rattle.dav_deeds.specs.declared.fault.DeskFault.{DeskFault}
 use Rattle.dav_deeds.specs.DeskTable.{DeskTable}
-use Rattle.dav_deeds.specs.Refusals.{store_refusal, queued_with, refusal_of}
-use Rattle.dav_deeds.specs.Effects.{Wait, Effect, quiet, bare, file_of, files_of, body_at, is_flying, grounded, store_effect, going, forgot_record, forget_effect, tried, take_effect, taken, is_current, fated_current, fated_of, settle_by_fate, settle_effect, effect_done, effect_unless, effect_of, waited, recorded, changed, after, released_of}
-use Rattle.dav_deeds.specs.Legal.{IsDone, IsBodyUnless, IsDeed}
-use Rattle.dav_deeds.specs.Sound.{IsOwn, IsFlightWithin, IsJobWithin, IsSound}
-use Rattle.dav_deeds.proofs.Paths.{by_test, same_self}
-use Rattle.dav_deeds.proofs.Entries.{entry_same}
-use Rattle.dav_deeds.proofs.Weights.{weight, EachEntry, changed_less, without_weight}
-use Rattle.dav_deeds.proofs.Bodies.{of_body, of_entry, in_file, bodies_weight, OfBody, EachBody, each_body, bodies_each, every_append}
-use Rattle.dav_deeds.proofs.Within.{IsLess, Puts, puts_by, IsMild, mild_less, gone_less, so_mild, sent_mild, IsQueuedEntry, queued_entry, lost_bodies, old_weight, one_if}
-use Rattle.dav_deeds.proofs.Flying.{every_at, at_found}
-use Rattle.dav_deeds.proofs.Sounds.{bare_is, no_fault, loss_is}
+use Rattle.dav_deeds.specs.Refusals.{refusal_of}
+use Rattle.dav_deeds.specs.Effects.{Wait, Effect, bare, store_effect, going, forgot_record, forget_effect, tried, take_effect, taken, is_current, fated_of, settle_by_fate, settle_effect, effect_done, effect_unless, effect_of, waited, recorded, changed, after}
+use Rattle.dav_deeds.specs.Legal.{IsDone, IsDeed, new_body}
+use Rattle.dav_deeds.specs.Sound.{IsFlightWithin, IsJobWithin, IsSound}
+use Rattle.dav_deeds.proofs.Bodies.{OfBody, EachBody, each_body, bodies_each}
+use Rattle.dav_deeds.proofs.Within.{IsLess, Puts, puts_by, mild_less, gone_less, so_mild, sent_mild, IsQueuedEntry, queued_entry, lost_bodies}
+use Rattle.dav_deeds.proofs.Flying.{every_at}
+use Rattle.dav_deeds.proofs.Sounds.{bare_is, loss_is}
 
 less_bodies : (t : Table) (ys : List Item) (row f l : ℕ) → IsLess t.entries ys → (Q : BodyId → Type 0) → Every Q (bodies_of t) → Every Q (bodies_of (record { entries = ys; lost = t.lost; records = row; next_file = f; next_lost = l }))
 less_bodies t ys row f l less Q h =
@@ -46,14 +35,6 @@ less_bodies t ys row f l less Q h =
 waited_bodies : (t : Table) (w : Option Wait) (Q : BodyId → Type 0) → Every Q (bodies_of t) → Every Q (bodies_of (waited t w))
 waited_bodies t None Q h = h
 waited_bodies t (Some w) Q h = less_bodies t (with_changed w.path (waiting_so w.waiting) t.entries) t.records t.next_file t.next_lost (mild_less w.path (waiting_so w.waiting) t.entries (so_mild w.waiting)) Q h
-
--- the body that a deed names
-abbrev pub new_body : Deed → Option BodyId
-new_body (Store path len body) = body
-new_body (Forget path locks below) = None
-new_body Take = None
-new_body (Settle job done) = None
-new_body Stop = None
 
 -- a fact of each body of the table, and of a new one, is one of each body afterwards
 abbrev Stays : DeskTable → Deed → Effect → (BodyId → Type 0) → Type 0

@@ -1,17 +1,16 @@
 -- A file that a deed releases is that of no body afterwards.
-use Rattle.std.proofs.Common.{◌≡◌, ◌≢◌, ◌⊎◌, inl, inr, ℕ, zero, suc, ◌+◌, ◌<◌, ◌≤◌, max, Bool, true, false, not, List, [], ◌∷◌, ◌++◌, length, Option, Some, None, is_some, nat_eq, Contains, refl, sym, ◌∙◌, ap, subst, arith, sum_by, if◌then◌else◌}
-use Rattle.std.specs.Prelude.{filter, nat_lt, option_and_then}
+use Rattle.std.proofs.Common.{◌≡◌, ◌≢◌, ◌⊎◌, inl, inr, ℕ, zero, suc, ◌+◌, ◌<◌, ◌≤◌, Bool, true, false, not, List, [], ◌∷◌, Option, Some, None, nat_eq, Contains, refl, sym, ◌∙◌, ap, subst, arith, sum_by, if◌then◌else◌}
+use Rattle.std.specs.Prelude.{nat_lt, option_and_then}
 use Rattle.std.proofs.lemmas.Bool.{false≢true, eqb-true, eq-eqb}
-use Rattle.std.proofs.lemmas.Bool.Decides.{nat_tests}
 use Rattle.std.proofs.lemmas.List.Sums.{sum_by-cons}
 use Rattle.std.proofs.lemmas.List.Elements.{Contains-append_cases}
 use Rattle.dav_text.specs.Path.{PathParts, IsPath}
 use Rattle.dav_text.specs.declared.tag.Seen.{Seen}
 use Rattle.dav_store.specs.declared.body_id.BodyId.{BodyId}
 use Rattle.dav_index.specs.Item.{Item}
-use Rattle.dav_index.specs.Items.{Every, same_path, entry_at, with_changed, with_entry, goes_with, without_entry}
+use Rattle.dav_index.specs.Items.{Every, entry_at, with_changed, with_entry, without_entry}
 use Rattle.dav_index.specs.Tables.{waiting_body, queued_body, queued_at, has_file, closed_entry, sent_entry, replay, waiting_so}
-use Rattle.dav_index.specs.Bounds.{bodies_of, IsWithin}
+use Rattle.dav_index.specs.Bounds.{bodies_of}
 use Rattle.dav_index.specs.declared.entry.Entry.{Entry}
 use Rattle.dav_index.specs.declared.entry.Waiting.{Waiting}
 use Rattle.dav_index.specs.declared.lost.LostItem.{LostItem}
@@ -26,15 +25,15 @@ use Rattle.dav_deeds.specs.declared.deed.Deed.{Deed}
 use Rattle.dav_deeds.specs.declared.deed.Deed.TheVariants.{Store, Forget, Take, Settle, Stop}
 use Rattle.dav_deeds.specs.declared.fault.DeskFault.{DeskFault}
 use Rattle.dav_deeds.specs.DeskTable.{DeskTable}
-use Rattle.dav_deeds.specs.Refusals.{store_refusal, queued_with, refusal_of}
-use Rattle.dav_deeds.specs.Effects.{Wait, Effect, bare, moment, pause, waiting_at, file_of, files_of, body_at, is_flying, grounded, store_effect, going, forgot_record, forget_effect, tried, take_effect, taken, is_current, fated_current, fated_of, settle_by_fate, settle_effect, effect_done, effect_unless, effect_of, waited, recorded, changed, after, released_of}
-use Rattle.dav_deeds.specs.Legal.{IsDone, IsBodyUnless, IsDeed}
+use Rattle.dav_deeds.specs.Refusals.{store_refusal, refusal_of}
+use Rattle.dav_deeds.specs.Effects.{Wait, Effect, bare, moment, pause, waiting_at, file_of, files_of, body_at, is_flying, grounded, store_effect, going, forgot_record, forget_effect, take_effect, taken, is_current, fated_current, fated_of, settle_by_fate, settle_effect, effect_done, effect_unless, waited, recorded, changed, after, released_of}
+use Rattle.dav_deeds.specs.Legal.{IsBodyUnless, IsDeed}
 use Rattle.dav_deeds.specs.Sound.{IsOwn, IsFlightWithin, IsJobWithin, IsSound}
 use Rattle.dav_deeds.proofs.Paths.{by_test, same_self}
 use Rattle.dav_deeds.proofs.Entries.{entry_same}
-use Rattle.dav_deeds.proofs.Weights.{weight, EachEntry, each_found, changed_less, without_weight}
-use Rattle.dav_deeds.proofs.Bodies.{of_body, of_entry, in_file, bodies_weight, OfBody, EachBody, each_body, every_weaker}
-use Rattle.dav_deeds.proofs.Within.{Puts, puts_by, old_weight, one_if, so_mild, IsMild}
+use Rattle.dav_deeds.proofs.Weights.{weight, each_found, changed_less, without_weight}
+use Rattle.dav_deeds.proofs.Bodies.{of_body, of_entry, in_file, bodies_weight, OfBody, EachBody, each_body}
+use Rattle.dav_deeds.proofs.Within.{Puts, puts_by, old_weight, one_if}
 use Rattle.dav_deeds.proofs.Flying.{every_at, at_found}
 use Rattle.dav_deeds.proofs.Sounds.{bare_is}
 
