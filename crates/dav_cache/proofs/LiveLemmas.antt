@@ -1,15 +1,13 @@
 -- How a desk on a disk goes on from step to step.
-use Rattle.std.proofs.Common.{◌≡◌, ◌⊎◌, inl, inr, ℕ, ◌+◌, ◌<◌, ◌≤◌, List, [], ◌∷◌, ◌++◌, Option, Some, None, false, refl, sym, ◌∙◌, ap, subst, arith, append_assoc}
+use Rattle.std.proofs.Common.{◌≡◌, ◌⊎◌, inl, inr, ℕ, ◌<◌, ◌≤◌, List, [], ◌∷◌, ◌++◌, Option, Some, None, false, refl, sym, ◌∙◌, ap, subst, arith, append_assoc}
 use Rattle.std.proofs.lemmas.List.{append-nil}
 use Rattle.std.proofs.lemmas.Bool.{cases_lt}
-use Rattle.std.specs.Prelude.{Vec}
-use Rattle.std.specs.declared.alloc.Global.{Global}
-use Rattle.dav_disk.specs.Disk.{Doubt, IsOutcome, IsImage, MightLeave, Touches}
+use Rattle.dav_disk.specs.Disk.{Doubt, IsOutcome, IsImage, Touches}
 use Rattle.dav_index.specs.Items.{Every}
 use Rattle.dav_index.specs.Tables.{replay, fresh_table, restarted}
 use Rattle.dav_index.specs.declared.table.Table.{Table}
 use Rattle.dav_index.specs.declared.record.Record.{Record}
-use Rattle.dav_deeds.specs.DeskTable.{DeskTable, reopened, started}
+use Rattle.dav_deeds.specs.DeskTable.{DeskTable, started}
 use Rattle.dav_deeds.specs.Effects.{after, record_of, recorded}
 use Rattle.dav_deeds.specs.Legal.{IsLegal, Legal, table_after}
 use Rattle.dav_deeds.specs.declared.deed.Step.{Step}

@@ -1,12 +1,11 @@
 -- What a start reads, and what it leaves.
-use Rattle.std.proofs.Common.{◌≡◌, ◌≢◌, ◌⊎◌, inl, inr, Option, Some, ℕ, ◌+◌, ◌*◌, ◌/◌, ◌%◌, ◌<◌, ◌≤◌, List, [], ◌∷◌, ◌++◌, length, map, drop, take, Bool, true, false, if◌then◌else◌, nat_eq, refl, sym, ◌∙◌, ap, subst, arith, append_assoc, length-append}
-use Rattle.std.proofs.lemmas.List.{map-append, length-map, drop_at}
-use Rattle.std.proofs.lemmas.Bool.{cases_eq, cases_lt, eq-eqb, eqb-true}
+use Rattle.std.proofs.Common.{◌≡◌, ◌≢◌, ◌⊎◌, inl, inr, Option, Some, ℕ, ◌/◌, ◌%◌, ◌<◌, ◌≤◌, List, [], ◌∷◌, ◌++◌, length, map, drop, take, Bool, true, false, if◌then◌else◌, nat_eq, refl, sym, ◌∙◌, ap, subst, arith, append_assoc, length-append}
+use Rattle.std.proofs.lemmas.List.{map-append, drop_at}
+use Rattle.std.proofs.lemmas.Bool.{cases_eq, eq-eqb, eqb-true}
 use Rattle.std.proofs.lemmas.List.Elements.{All-contains, All-from_recursion}
 use Rattle.std.specs.List.{Contains}
 use Rattle.dav_disk.specs.Disk.{Doubt, IsOutcome, IsImage, Touches, LeavesOnly}
 use Rattle.dav_store.specs.Rows.{row_text, Rows, Spells, HasRow, IsBroken, IsReading, IsAtRest}
-use Rattle.std.specs.Str.{IsUtf8}
 use Rattle.dav_machine.specs.Log.{Rose}
 use Rattle.dav_store.specs.Body.{IsDamage}
 use Rattle.dav_store.specs.Cause.{IsNoDamage}

@@ -1,6 +1,3 @@
-use Rattle.dav_deeds.specs.DeskTable.{DeskTable}
-use Rattle.dav_deeds.specs.declared.deed.Step.{Step}
-use Rattle.dav_deeds.specs.Legal.{Legal, table_after}
 use Rattle.dav_deeds.proofs.Fates.{kept}
 use Rattle.dav_cache.proofs.LiveLemmas.{legal_done}
 use Rattle.dav_cache.proofs.laws.last_bytes_survive.Goals as goal

@@ -1,4 +1,4 @@
-use Rattle.std.proofs.Common.{ℕ, ◌≤◌, arith}
+use Rattle.std.proofs.Common.{arith}
 use Rattle.dav_cache.proofs.LiveLemmas.{survives_sooner}
 use Rattle.dav_cache.proofs.laws.survives_from.Goals as goal
 

@@ -1,7 +1,7 @@
-use Rattle.std.proofs.Common.{rules, ◌≡◌, ◌≢◌, ℕ, ◌≤◌, ◌<◌, List, [], ◌∷◌, length, inl, sym, ◌∙◌, ap, subst, arith}
+use Rattle.std.proofs.Common.{rules, ◌≡◌, ◌≢◌, ℕ, ◌≤◌, List, [], ◌∷◌, inl, sym, ◌∙◌, ap, subst, arith}
 use Rattle.dav_disk.proofs.Stretch.{touches_join, touches_wider}
 use Rattle.dav_store.specs.Rows.{IsReading, IsAtRest}
-use Rattle.dav_store.specs.Start.{IsNothing, head_of}
+use Rattle.dav_store.specs.Start.{head_of}
 use Rattle.dav_deeds.specs.declared.fault.DeskFault.{DeskFault}
 use Rattle.dav_cache.specs.Opening.{IsStartFault, IsOther}
 use Rattle.dav_cache.proofs.StartLemmas.{start_fault, other_fault, opening_images, opened_images, opened_index, bad_before, same_table, consistent}

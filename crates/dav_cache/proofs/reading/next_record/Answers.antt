@@ -1,5 +1,4 @@
-use Rattle.std.proofs.Common.{◌≡◌, ℕ, List, [], ◌∷◌, ◌++◌, inl, inr, drop, sym, ◌∙◌, subst}
-use Rattle.dav_store.specs.Rows.{HasRow}
+use Rattle.std.proofs.Common.{◌≡◌, ℕ, List, [], ◌∷◌, ◌++◌, inl, inr, sym, ◌∙◌, subst}
 use Rattle.dav_index.specs.Bounds.{IsWithin}
 use Rattle.dav_index.specs.declared.table.Table.{Table}
 use Rattle.dav_cache.specs.Opening.{IsNoRecord, IsBadRow, IsRead}

@@ -1,6 +1,5 @@
-use Rattle.std.proofs.Common.{◌≡◌, ℕ, ◌+◌, ◌*◌, ◌≤◌, List, [], ◌∷◌, ◌++◌, sym, ◌∙◌, ap, subst, arith}
+use Rattle.std.proofs.Common.{ℕ, ◌+◌, List, [], ◌∷◌, ◌++◌, sym, ◌∙◌, ap, subst, arith}
 use Rattle.dav_disk.proofs.Stretch.{touches_join}
-use Rattle.dav_index.specs.declared.record.Record.{Record}
 use Rattle.dav_cache.specs.Opening.{IsBadRow}
 use Rattle.dav_cache.proofs.reading.read_table.Goals as goal
 

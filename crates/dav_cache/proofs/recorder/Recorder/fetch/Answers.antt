@@ -1,4 +1,4 @@
-use Rattle.std.proofs.Common.{◌≡◌, ◌≢◌, ◌≤◌, ℕ, List, Some, arith, refl, sym, ◌∙◌, ap, subst}
+use Rattle.std.proofs.Common.{◌≤◌, Some, arith, refl, sym, ◌∙◌, ap, subst}
 use Rattle.dav_store.specs.Rows.{IsReady}
 use Rattle.dav_deeds.specs.declared.fault.DeskFault.{DeskFault}
 use Rattle.dav_cache.specs.Opening.{IsFetchFault}
