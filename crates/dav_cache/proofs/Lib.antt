@@ -1,0 +1,5 @@
+pub mod Standing
+pub mod StartLemmas
+pub mod DueLemmas
+pub mod LiveLemmas
+pub mod PlanLemmas

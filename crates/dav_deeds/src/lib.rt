@@ -1,0 +1,18 @@
+//! The deeds of a desk: what it is asked, what each ask comes to in its table, and what became of
+//! the bytes that were closed last of each path.
+#![tactic(auto)]
+
+mod answer;
+mod ask;
+mod deed;
+mod fault;
+mod laws;
+
+pub use answer::{Answer, Fated, Flight, Job, Told};
+pub use ask::{Ask, Done, Who};
+pub use deed::{Deed, Mark, Step, Trace};
+pub use fault::DeskFault;
+pub use laws::{
+    deeds_keep_bounds, deeds_name_one_body, last_bytes_are_kept, records_are_enough,
+    records_are_written, released_files_are_free, starts_keep_bodies,
+};
