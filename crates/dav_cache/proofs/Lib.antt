@@ -1,0 +1,4 @@
+pub mod Standing
+pub mod StartLemmas
+pub mod DueLemmas
+pub mod LiveLemmas

@@ -1,0 +1,36 @@
+use Rattle.std.proofs.Common.{ℕ, List, [], ◌∷◌, ◌++◌, inr}
+use Rattle.dav_cache.specs.Stands.{StandsEither}
+use Rattle.dav_cache.proofs.Standing.{images_join, row_images, row_done}
+use Rattle.dav_cache.proofs.commit.commit_rows.Goals as goal
+
+pub returns-in-Err-append-clause-any_moment : goal.returns-in-Err-append-clause-any_moment
+returns-in-Err-append-clause-any_moment g c h rows holds holds_after given is safe =
+    let end = c.args.journal.now.end in
+    let held = c.in-Ok.ensures.held h rows holds holds_after given end is.adding safe in
+    row_images rows c.args.row.now holds holds_after given (c.keep.ensures.any_moment h rows holds holds_after given end is.adding safe) (c.append.ensures.touches h) held.0.kept held.1 (c.append.ensures.any_moment h rows held.0.index)
+
+pub returns-in-Ok-release-clause-safe : goal.returns-in-Ok-release-clause-safe
+returns-in-Ok-release-clause-safe g c h rows holds holds_after given is safe =
+    let held = c.in-Ok.ensures.held h rows holds holds_after given c.args.journal.now.end is.adding safe in
+    let after = row_done (c.append.ensures.touches h) rows c.args.row.now holds holds_after given held.0.kept held.1 c.append.new.self.end (g.D.Disk.seen c.append.new.disk) (c.in-Ok-append.ensures.appended h rows held.0.index) in
+    c.release.ensures.safe h (rows ++ c.args.row.now ∷ []) holds_after given c.append.new.self.end is.spared after
+
+pub returns-in-Ok-release-clause-any_moment : goal.returns-in-Ok-release-clause-any_moment
+returns-in-Ok-release-clause-any_moment g c h rows holds holds_after given is safe =
+    let end = c.args.journal.now.end in
+    let held = c.in-Ok.ensures.held h rows holds holds_after given end is.adding safe in
+    let after = row_done (c.append.ensures.touches h) rows c.args.row.now holds holds_after given held.0.kept held.1 c.append.new.self.end (g.D.Disk.seen c.append.new.disk) (c.in-Ok-append.ensures.appended h rows held.0.index) in
+    images_join (StandsEither rows holds (rows ++ c.args.row.now ∷ []) holds_after given)
+    (row_images rows c.args.row.now holds holds_after given (c.keep.ensures.any_moment h rows holds holds_after given end is.adding safe) (c.append.ensures.touches h) held.0.kept held.1 (c.append.ensures.any_moment h rows held.0.index))
+    (c.release.ensures.touches h).before
+    (λ k image lo hi left. inr (c.release.ensures.any_moment h (rows ++ c.args.row.now ∷ []) holds_after given c.append.new.self.end is.spared after k image lo hi left))
+
+pub returns-in-Err-release-clause-any_moment : goal.returns-in-Err-release-clause-any_moment
+returns-in-Err-release-clause-any_moment g c h rows holds holds_after given is safe =
+    let end = c.args.journal.now.end in
+    let held = c.in-Ok.ensures.held h rows holds holds_after given end is.adding safe in
+    let after = row_done (c.append.ensures.touches h) rows c.args.row.now holds holds_after given held.0.kept held.1 c.append.new.self.end (g.D.Disk.seen c.append.new.disk) (c.in-Ok-append.ensures.appended h rows held.0.index) in
+    images_join (StandsEither rows holds (rows ++ c.args.row.now ∷ []) holds_after given)
+    (row_images rows c.args.row.now holds holds_after given (c.keep.ensures.any_moment h rows holds holds_after given end is.adding safe) (c.append.ensures.touches h) held.0.kept held.1 (c.append.ensures.any_moment h rows held.0.index))
+    (c.release.ensures.touches h).before
+    (λ k image lo hi left. inr (c.release.ensures.any_moment h (rows ++ c.args.row.now ∷ []) holds_after given c.append.new.self.end is.spared after k image lo hi left))

@@ -1,0 +1,18 @@
+use Rattle.dav_cache.proofs.Standing.{stands_now, none_held, keep_stands, keep_held}
+use Rattle.dav_cache.proofs.commit.keep.Goals as goal
+
+pub returns-in-None-clause-held : goal.returns-in-None-clause-held
+returns-in-None-clause-held g c h rows holds holds_after given end adding safe =
+    (safe, none_held adding c.in-None.is (g.D.Disk.past c.args.disk.now (g.D.Disk.moment c.args.disk.now)) safe.kept)
+
+pub returns-in-None-clause-any_moment : goal.returns-in-None-clause-any_moment
+returns-in-None-clause-any_moment g c h rows holds holds_after given end adding safe = stands_now (g.D.Disk.past c.args.disk.now) (g.D.Disk.moment c.args.disk.now) safe
+
+pub returns-in_ok-keep-in-Some-clause-held : goal.returns-in_ok-keep-in-Some-clause-held
+returns-in_ok-keep-in-Some-clause-held g c h rows holds holds_after given end adding safe =
+    keep_held c.in-Some.file c.args.fresh (c.keep.ensures.touches h) c.in-Some.is (c.requires.apart c.in-Some.file c.in-Some.is) rows holds holds_after given c.args.bytes.now end (g.D.Disk.seen c.args.disk.now)
+    adding safe (g.D.Disk.seen c.keep.new.disk) (c.keep.ensures.others h) (c.in_ok-keep-in-Some.ensures.kept h)
+
+pub returns-in_ok-keep-in-Some-clause-any_moment : goal.returns-in_ok-keep-in-Some-clause-any_moment
+returns-in_ok-keep-in-Some-clause-any_moment g c h rows holds holds_after given end adding safe =
+    keep_stands c.in-Some.file c.args.fresh (c.keep.ensures.touches h) c.in-Some.is (c.requires.apart c.in-Some.file c.in-Some.is) rows holds holds_after given c.args.bytes.now end (g.D.Disk.seen c.args.disk.now) adding safe

@@ -1,0 +1,43 @@
+use Rattle.std.proofs.Common.{◌≡◌, ℕ, List, ◌∷◌, [], ◌++◌, refl, sym, ◌∙◌, ap, subst}
+use Rattle.dav_store.specs.Rows.{IsReady}
+use Rattle.dav_index.specs.Tables.{replay}
+use Rattle.dav_deeds.specs.Legal.{table_after}
+use Rattle.dav_deeds.specs.declared.deed.Step.{Step}
+use Rattle.dav_cache.specs.Planned.{kept_table}
+use Rattle.dav_cache.specs.Survives.{IsLive}
+use Rattle.dav_cache.specs.declared.recorder.Recorder.{Recorder}
+use Rattle.dav_cache.proofs.LiveLemmas.{stamped, kept_after, left_before, left_under, live_on}
+use Rattle.dav_cache.proofs.recorder.Recorder.enter.Goals as goal
+
+pub returns-in-Ok-clause-ready : goal.returns-in-Ok-clause-ready
+returns-in-Ok-clause-ready g c h =
+    subst (λ (d : Recorder g.row.D.Denot). IsReady d.journal.end (g.D.Disk.seen d.disk 0) (g.D.Disk.past d.disk (g.D.Disk.moment d.disk) 0)) (sym c.push.ensures.rest) (c.in-Ok.ensures.ready h)
+
+pub returns-in-Ok-clause-live : goal.returns-in-Ok-clause-live
+returns-in-Ok-clause-live g c h url opening start given legal planned is =
+    let old = c.args.self.now in
+    let t = table_after opening old.trace.steps.items in
+    let after = replay (kept_table t) planned.r in
+    let new : Recorder g.row.D.Denot = record { disk = c.commit.new.disk; journal = c.commit.new.journal; bodies = c.commit.new.bodies; trace = c.push.new.self.trace; under = old.under; dead = old.dead } in
+    let grown : c.push.new.self.trace.steps.items ≡ old.trace.steps.items ++ stamped c.args.step (g.D.Disk.moment c.commit.new.disk) ∷ [] =
+    c.push.ensures.items ∙ ap (λ (n : ℕ). old.trace.steps.items ++ stamped c.args.step n ∷ []) c.calls.ensures in
+    subst (λ (d : Recorder g.row.D.Denot). IsLive g.D.Disk.moment g.D.Disk.seen g.D.Disk.past url opening start given d) (sym c.push.ensures.rest)
+    (live_on g.D.Disk.moment g.D.Disk.seen g.D.Disk.past url opening start given old is new (c.commit.ensures.touches h) c.args.step legal after (kept_after t c.args.step planned.r planned.record_is)
+    (c.commit.ensures.any_moment h url (kept_table t) after planned.r given planned.due is.consistent)
+    (c.in-Ok.ensures.consistent h url (kept_table t) after planned.r given planned.due is.consistent) grown is.idle)
+
+pub returns-in-Err-Before-clause-left : goal.returns-in-Err-Before-clause-left
+returns-in-Err-Before-clause-left g c h url opening start given legal planned is =
+    let old = c.args.self.now in
+    let t = table_after opening old.trace.steps.items in
+    let early = rw c.in-Err-Before.field-0-is at c.in-Err-Before.ensures.before h in
+    left_before g.D.Disk.moment g.D.Disk.seen g.D.Disk.past url opening start given old is _ (c.commit.ensures.touches h)
+    (early refl url (kept_table t) (replay (kept_table t) planned.r) planned.r given planned.due is.consistent) refl refl
+
+pub returns-in-Err-Under-clause-left : goal.returns-in-Err-Under-clause-left
+returns-in-Err-Under-clause-left g c h url opening start given legal planned is =
+    let old = c.args.self.now in
+    let t = table_after opening old.trace.steps.items in
+    let after = replay (kept_table t) planned.r in
+    left_under g.D.Disk.moment g.D.Disk.seen g.D.Disk.past url opening start given old is _ (c.commit.ensures.touches h) c.args.step legal after (kept_after t c.args.step planned.r planned.record_is)
+    (c.commit.ensures.any_moment h url (kept_table t) after planned.r given planned.due is.consistent) c.calls-in-Err-Under.result refl refl

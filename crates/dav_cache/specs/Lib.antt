@@ -1,0 +1,6 @@
+pub mod Stands
+pub mod Recovers
+pub mod Opening
+pub mod Due
+pub mod Survives
+pub mod Planned

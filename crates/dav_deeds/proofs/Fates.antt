@@ -1,0 +1,180 @@
+-- Over a legal trace what is queued of a path stays in line with what became of its last bytes.
+use Rattle.std.proofs.Common.{◌≡◌, ◌≢◌, ℕ, ◌+◌, Bool, true, false, List, [], ◌∷◌, ◌++◌, length, Option, Some, None, nat_eq, Contains, refl, sym, ◌∙◌, ap, subst, arith, append_assoc, length-append, if◌then◌else◌}
+use Rattle.std.proofs.lemmas.Bool.{eqb-true}
+use Rattle.dav_text.specs.Path.{PathParts}
+use Rattle.dav_text.specs.declared.tag.Seen.{Seen}
+use Rattle.dav_store.specs.declared.body_id.BodyId.{BodyId}
+use Rattle.dav_index.specs.Item.{Item}
+use Rattle.dav_index.specs.Items.{same_path}
+use Rattle.dav_index.specs.Tables.{queued_at}
+use Rattle.dav_index.specs.declared.lost.LostItem.{LostItem}
+use Rattle.dav_index.specs.declared.table.Table.{Table}
+use Rattle.dav_deeds.specs.declared.answer.Fated.{Fated}
+use Rattle.dav_deeds.specs.declared.answer.Fated.TheVariants as fates
+use Rattle.dav_deeds.specs.declared.answer.Flight.{Flight}
+use Rattle.dav_deeds.specs.declared.answer.Told.{Told}
+use Rattle.dav_deeds.specs.declared.ask.Done.{Done}
+use Rattle.dav_deeds.specs.declared.ask.Done.TheVariants as ends
+use Rattle.dav_deeds.specs.declared.deed.Deed.{Deed}
+use Rattle.dav_deeds.specs.declared.deed.Deed.TheVariants.{Store, Forget, Take, Settle, Stop}
+use Rattle.dav_deeds.specs.declared.deed.Mark.{Mark}
+use Rattle.dav_deeds.specs.declared.deed.Mark.TheVariants as marks
+use Rattle.dav_deeds.specs.declared.deed.Step.{Step}
+use Rattle.dav_deeds.specs.declared.fault.DeskFault.{DeskFault}
+use Rattle.dav_deeds.specs.declared.fault.DeskFault.TheVariants.{NoSuchJob}
+use Rattle.dav_deeds.specs.DeskTable.{DeskTable}
+use Rattle.dav_deeds.specs.Refusals.{job_fault, refusal_of}
+use Rattle.dav_deeds.specs.Effects.{store_effect, going, forgot_record, forget_effect, tried, take_effect, taken, fated_of, settle_effect, settle_by_fate, effect_done, effect_unless, is_current, recorded, changed, after, mark_of, told_of}
+use Rattle.dav_deeds.specs.Legal.{IsLegal, table_after, Legal}
+use Rattle.dav_deeds.specs.Fate.{Fate, Queued, Sent, Lost, Story, tell, told_on, story, IsTaken, IsSentAt, IsLostAs, IsKeptAs, IsKept}
+use Rattle.dav_deeds.proofs.Fits.{Fits, StepFits, step_fits}
+use Rattle.dav_deeds.proofs.Queued.{waited_lost, lost_before}
+use Rattle.dav_deeds.proofs.Taking.{table_push, find_take}
+
+-- the steps in front of legal ones are legal
+pub legal_front : (t : DeskTable) (front rest : List Step) → Legal t (front ++ rest) → Legal t front
+legal_front t [] rest legal = tt
+legal_front t (s ∷ front) rest legal = (legal.0, legal_front (after t s.now s.deed) front rest legal.1)
+
+-- and so are they with one more
+pub legal_push : (t : DeskTable) (steps : List Step) (s : Step) → Legal t steps → IsLegal (table_after t steps) s → Legal t (steps ++ s ∷ [])
+legal_push t [] s legal is = (is, tt)
+legal_push t (x ∷ steps) s legal is = (legal.0, legal_push (after t x.now x.deed) steps s legal.1 is)
+
+-- a settling that isn't refused is of the number of the job in flight
+job_number : (number : ℕ) (flight : Flight) → job_fault number (Some flight) ≡ None → flight.number ≡ number
+job_number number flight free = by (nat_eq flight.number number) refl free
+  where
+    by : (b : Bool) → nat_eq flight.number number ≡ b → (if b then None else Some (NoSuchJob number)) ≡ None → flight.number ≡ number
+    by true is free = eqb-true flight.number number is
+    by false is free = cc
+
+-- a settling with Sent that isn't refused has a plain mark
+sent_mark : (t : DeskTable) (now number : ℕ) (seen : Seen) (flight : Flight) → t.job ≡ Some flight → refusal_of t (Settle number (ends.Sent seen)) ≡ None → mark_of t now (Settle number (ends.Sent seen)) ≡ marks.Plain
+sent_mark t now number seen flight flies free =
+    ap (λ (r : Option DeskFault). (effect_unless r t now (Settle number (ends.Sent seen))).mark) free
+    ∙ ap (λ (job : Option Flight). (settle_effect t job now (ends.Sent seen)).mark) flies
+    ∙ by (is_current t.index flight)
+  where
+    by : (b : Bool) → (settle_by_fate t flight (ends.Sent seen) (if b then fates.Clean else fates.Superseded)).mark ≡ marks.Plain
+    by true = refl
+    by false = refl
+
+module _ (opening : DeskTable) (none : opening.job ≡ None) (whole : List Step) (path : PathParts) where
+  abbrev Went : ℕ → BodyId → Type 0
+  Went place b = IsSentAt opening whole path place b
+
+  abbrev FitsNow : DeskTable → Story → Type 0
+  FitsNow t st = Fits Went (IsLostAs t.index path) (queued_at path t.index.entries) st.last st.fate
+
+  walk : (front rest : List Step) (t : DeskTable) (st : Story) → whole ≡ front ++ rest → table_after opening front ≡ t → length front ≡ st.count → st.job ≡ t.job → Legal opening front → Legal t rest → FitsNow t st → FitsNow (table_after t rest) (told_on path st rest)
+  walk front [] t st split at place job before legal fit = fit
+  walk front (s ∷ rest) t st split at place job before legal fit =
+      let goes : StepFits Went path st s.deed s.mark s.told (after t s.now s.deed) =
+      subst (λ (m : Mark). StepFits Went path st s.deed m s.told (after t s.now s.deed)) (sym legal.0.mark)
+      (subst (λ (o : Option Told). StepFits Went path st s.deed (mark_of t s.now s.deed) o (after t s.now s.deed)) (sym legal.0.told)
+      (step_fits Went path t st s.now s.deed job good fit)) in
+      walk (front ++ s ∷ []) rest (after t s.now s.deed) (tell path st s.deed s.mark s.told)
+      (split ∙ sym (append_assoc front (s ∷ []) rest))
+      (table_push opening front s ∙ ap (λ (t : DeskTable). after t s.now s.deed) at)
+      (omega (arith, length-append front (s ∷ []), place, goes.count))
+      goes.job
+      (legal_push opening front s before (subst (λ (u : DeskTable). IsLegal u s) (sym at) legal.0))
+      legal.1 goes.fits
+    where
+      good : (flight : Flight) (b : BodyId) (number : ℕ) (seen : Seen) → s.deed ≡ Settle number (ends.Sent seen) → refusal_of t s.deed ≡ None → t.job ≡ Some flight → same_path path flight.path ≡ true → nat_eq b.file flight.body.file ≡ true → Went st.count b
+      good flight b number seen deed_is free flies on file =
+          let free' : refusal_of t (Settle number (ends.Sent seen)) ≡ None = subst (λ (d : Deed). refusal_of t d ≡ None) deed_is free in
+          let num : flight.number ≡ number = job_number number flight (subst (λ (o : Option Flight). job_fault number o ≡ None) flies free') in
+          record {
+            before = front;
+            step = s;
+            since = rest;
+            split = split;
+            place_is = place;
+            flight = flight;
+            seen = seen;
+            in_flight = ap (λ (t : DeskTable). t.job) at ∙ flies;
+            deed_is = deed_is ∙ ap (λ (n : ℕ). Settle n (ends.Sent seen)) (sym num);
+            mark_is = legal.0.mark ∙ ap (mark_of t s.now) deed_is ∙ sent_mark t s.now number seen flight flies free';
+            taken = find_take opening flight [] front opening refl before (λ h. let no_job : None ≡ Some flight = sym none ∙ h in cc) (ap (λ (t : DeskTable). t.job) at ∙ flies);
+            path_is = on;
+            file_is = sym (eqb-true b.file flight.body.file file);
+          }
+
+  start_fits : FitsNow opening (record { last = queued_at path opening.index.entries; fate = Queued; job = opening.job; count = 0 })
+  start_fits = by (queued_at path opening.index.entries) refl
+    where
+      by : (q : Option BodyId) → queued_at path opening.index.entries ≡ q → Fits Went (IsLostAs opening.index path) (queued_at path opening.index.entries) q Queued
+      by None is = is
+      by (Some b) is = is
+
+  fated : Legal opening whole → FitsNow (table_after opening whole) (story opening whole path)
+  fated legal = walk [] whole opening (record { last = queued_at path opening.index.entries; fate = Queued; job = opening.job; count = 0 }) refl refl refl refl tt legal start_fits
+
+  kept_as : (t : Table) (last : Option BodyId) (fate : Fate) → Fits Went (IsLostAs t path) (queued_at path t.entries) last fate → IsKeptAs opening whole t path last fate
+  kept_as t None fate fit = tt
+  kept_as t (Some b) Queued fit = fit
+  kept_as t (Some b) (Sent place) fit = fit.1
+  kept_as t (Some b) (Lost n) fit = fit.1
+
+  pub last_close : Legal opening whole → IsKeptAs opening whole (table_after opening whole).index path (story opening whole path).last (story opening whole path).fate
+  last_close legal = kept_as (table_after opening whole).index (story opening whole path).last (story opening whole path).fate (fated legal)
+
+-- what was lost stays so
+settle_keeps : (t : DeskTable) (x : LostItem) (flight : Flight) (done : Done) (fated : Fated) → Contains t.index.lost x → Contains (changed t (settle_by_fate t flight done fated)).index.lost x
+settle_keeps t x flight (ends.Sent seen) fates.Clean there = there
+settle_keeps t x flight (ends.Sent seen) fates.Superseded there = there
+settle_keeps t x flight (ends.Sent seen) (fates.Waits n due) there = there
+settle_keeps t x flight (ends.Sent seen) (fates.Lost n) there = there
+settle_keeps t x flight (ends.Again after) fates.Clean there = there
+settle_keeps t x flight (ends.Again after) fates.Superseded there = there
+settle_keeps t x flight (ends.Again after) (fates.Waits n due) there = there
+settle_keeps t x flight (ends.Again after) (fates.Lost n) there = lost_before flight.path n t.index x there
+settle_keeps t x flight ends.Refused fates.Clean there = there
+settle_keeps t x flight ends.Refused fates.Superseded there = there
+settle_keeps t x flight ends.Refused (fates.Waits n due) there = there
+settle_keeps t x flight ends.Refused (fates.Lost n) there = lost_before flight.path n t.index x there
+
+settling_keeps : (t : DeskTable) (x : LostItem) (job : Option Flight) (now : ℕ) (done : Done) → Contains t.index.lost x → Contains (changed t (settle_effect t job now done)).index.lost x
+settling_keeps t x None now done there = there
+settling_keeps t x (Some flight) now done there = settle_keeps t x flight done (fated_of t.index flight now done) there
+
+store_keeps : (t : DeskTable) (x : LostItem) (p : PathParts) (now : ℕ) (body : Option BodyId) → Contains t.index.lost x → Contains (changed t (store_effect t p now body)).index.lost x
+store_keeps t x p now None there = there
+store_keeps t x p now (Some b) there = there
+
+take_keeps : (t : DeskTable) (x : LostItem) (job : Option Flight) → Contains t.index.lost x → Contains (changed t (take_effect t job)).index.lost x
+take_keeps t x None there = there
+take_keeps t x (Some flight) there = subst (λ (ls : List LostItem). Contains ls x) (sym (waited_lost t.index (tried t flight))) there
+
+forget_keeps : (t : DeskTable) (x : LostItem) (p : PathParts) (locks below : Bool) → Contains t.index.lost x → Contains (changed t (forget_effect t p locks below)).index.lost x
+forget_keeps t x p locks below there = by (going p below t.index.entries)
+  where
+    by : (items : List Item) → Contains (recorded t.index (forgot_record p locks below items)).lost x
+    by [] = there
+    by (y ∷ ys) = there
+
+done_keeps : (t : DeskTable) (now : ℕ) (deed : Deed) (x : LostItem) → Contains t.index.lost x → Contains (changed t (effect_done t now deed)).index.lost x
+done_keeps t now (Store p len body) x there = store_keeps t x p now body there
+done_keeps t now (Forget p locks below) x there = forget_keeps t x p locks below there
+done_keeps t now Take x there = take_keeps t x (taken t now) there
+done_keeps t now (Settle number done) x there = settling_keeps t x t.job now done there
+done_keeps t now Stop x there = there
+
+lost_step : (t : DeskTable) (now : ℕ) (deed : Deed) (x : LostItem) → Contains t.index.lost x → Contains (after t now deed).index.lost x
+lost_step t now deed x there = by (refusal_of t deed)
+  where
+    by : (r : Option DeskFault) → Contains (changed t (effect_unless r t now deed)).index.lost x
+    by (Some fault) = there
+    by None = done_keeps t now deed x there
+
+lost_stays : (t : DeskTable) (steps : List Step) (x : LostItem) → Contains t.index.lost x → Contains (table_after t steps).index.lost x
+lost_stays t [] x there = there
+lost_stays t (s ∷ steps) x there = lost_stays (after t s.now s.deed) steps x (lost_step t s.now s.deed x there)
+
+pub kept : (opening : DeskTable) (steps : List Step) → opening.job ≡ None → Legal opening steps → IsKept opening steps (table_after opening steps).index
+kept opening steps none legal = record {
+  last_close = λ path. last_close opening none steps path legal;
+  lost_stays = λ x there. lost_stays opening steps x there;
+}

@@ -1,0 +1,14 @@
+pub mod Paths
+pub mod Entries
+pub mod Queued
+pub mod Fits
+pub mod Taking
+pub mod Fates
+pub mod Restart
+pub mod Weights
+pub mod Bodies
+pub mod Ordered
+pub mod Within
+pub mod Closing
+pub mod Flying
+pub mod Sounds

@@ -1,0 +1,7 @@
+pub mod Answers
+pub mod DeskTable
+pub mod Refusals
+pub mod Effects
+pub mod Legal
+pub mod Fate
+pub mod Sound

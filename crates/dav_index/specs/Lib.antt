@@ -1,0 +1,10 @@
+pub mod Records
+pub mod Faults
+pub mod Item
+pub mod Items
+pub mod HeldView
+pub mod EntriesView
+pub mod LostView
+pub mod Tables
+pub mod Bounds
+pub mod Queries
