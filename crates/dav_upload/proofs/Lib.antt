@@ -1,2 +1,4 @@
 pub mod Exchanging
 pub mod Putting
+pub mod Backing
+pub mod Whole

@@ -1,10 +1,13 @@
-//! The exchange that sends a file: one request with its precondition, and what its reply tells.
+//! The exchange that sends a file: one request with its precondition, and what its reply tells. Beside it the law
+//! that bytes closed on a desk are on its disk, or were sent whole.
 #![tactic(auto)]
 
 mod came;
 mod exchange;
+mod laws;
 #[cfg(test)]
 mod tests;
 
 pub use came::Came;
 pub use exchange::upload;
+pub use laws::{last_bytes_are_kept_whole, last_bytes_outlive_a_stop};

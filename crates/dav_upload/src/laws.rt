@@ -1,0 +1,26 @@
+ghost use Rattle.std.specs.Prelude.{◌≡◌, ℕ, List, Option, None};
+ghost use Rattle.dav_edge.specs.Device.{Happened};
+ghost use Rattle.dav_uri.specs.Target.{BaseParts};
+ghost use Rattle.dav_deeds.specs.declared.deed.Step.{Step};
+ghost use Rattle.dav_deeds.specs.DeskTable.{DeskTable, reopened};
+ghost use Rattle.dav_deeds.specs.Legal.{Legal, table_after};
+ghost use Rattle.dav_cache.specs.Recovers.{Recovers};
+ghost use Rattle.dav_cache.specs.Survives.{Survives, with_under};
+ghost use Rattle.dav_upload.specs.Backs.{Backs};
+ghost use Rattle.dav_upload.specs.Outlives.{KeepsBytes, Outlives};
+
+/// A law: where the steps of a desk that tell bytes to be sent have their requests on the wire, and an image of
+/// the disk recovers to the table after all of the steps, the bytes closed last of each path are in the image,
+/// or were sent whole.
+pub fn last_bytes_are_kept_whole()
+    ensures { (base : BaseParts) (url : List ℕ) (bodies : ℕ → List ℕ) (opening : DeskTable) (steps : List Step) (events : List Happened) (image : ℕ → List ℕ)
+        → opening.job ≡ None → Legal opening steps → Backs base bodies opening steps events → Recovers url (reopened (table_after opening steps)).index bodies image
+        → KeepsBytes base bodies opening steps events (reopened (table_after opening steps)).index image }
+{}
+
+/// A law: the same after a stop at any moment, of a front of the steps that has each one that ended until then.
+pub fn last_bytes_outlive_a_stop()
+    ensures { (base : BaseParts) (url : List ℕ) (bodies : ℕ → List ℕ) (opening : DeskTable) (steps : List Step) (under : Option Step) (events : List Happened) (m : ℕ) (image : ℕ → List ℕ)
+        → opening.job ≡ None → Legal opening (with_under steps under) → Backs base bodies opening (with_under steps under) events
+        → Survives url opening steps under bodies m image → Outlives base url bodies opening steps under events m image }
+{}
