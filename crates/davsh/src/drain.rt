@@ -25,7 +25,8 @@ pub fn drain<V: Wire>(alloc: Global, base: &Base, wire: &mut V, desk: &mut Desk)
             return true;
         };
         let number = job.number;
-        let Ok(came) = upload(alloc, base, wire, &job.path, job.bytes, &Seen::Absent) else {
+        let bytes = job.bytes;
+        let Ok(came) = upload(alloc, base, wire, &job.path, bytes, &Seen::Absent) else {
             return false;
         };
         settle(desk, number, done_of(came));
