@@ -3,11 +3,13 @@
 #![tactic(auto)]
 
 mod came;
+mod ending;
 mod exchange;
 mod laws;
 #[cfg(test)]
 mod tests;
 
 pub use came::Came;
+pub use ending::send_job;
 pub use exchange::upload;
 pub use laws::{last_bytes_are_kept_whole, last_bytes_outlive_a_stop};
