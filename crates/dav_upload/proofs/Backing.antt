@@ -32,7 +32,7 @@ put_behind base bodies flight front events put = record {
   success = put.success;
 }
 
-put_of_behind : (base : BaseParts) (bodies : ℕ → List ℕ) (job : Option Flight) (front events : List Happened) → HasPutOf base bodies job events → HasPutOf base bodies job (front ++ events)
+pub put_of_behind : (base : BaseParts) (bodies : ℕ → List ℕ) (job : Option Flight) (front events : List Happened) → HasPutOf base bodies job events → HasPutOf base bodies job (front ++ events)
 put_of_behind base bodies None front events put = tt
 put_of_behind base bodies (Some flight) front events put = put_behind base bodies flight front events put
 
@@ -48,14 +48,36 @@ backs_more base bodies t [] events more backs = tt
 backs_more base bodies t (s ∷ steps) events more backs =
     (backs.0, backs.1 ++ more, ap (λ (l : List Happened). l ++ more) backs.2 ∙ append_assoc backs.0 backs.1 more, backs.3, backs_more base bodies (after t s.now s.deed) steps backs.1 more backs.4)
 
+-- calls in front are those of no step
+pub backs_ahead : (base : BaseParts) (bodies : ℕ → List ℕ) (t : DeskTable) (steps : List Step) (front events : List Happened) → Backs base bodies t steps events → Backs base bodies t steps (front ++ events)
+backs_ahead base bodies t [] front events backs = tt
+backs_ahead base bodies t (s ∷ steps) front events backs =
+    (front ++ backs.0, backs.1, ap (λ (l : List Happened). front ++ l) backs.2 ∙ sym (append_assoc front backs.0 backs.1), put_of_behind base bodies (job_sent t.job s.deed s.mark) front backs.0 backs.3, backs.4)
+
 -- one step more, with the calls since
 pub backs_push : (base : BaseParts) (bodies : ℕ → List ℕ) (t : DeskTable) (steps : List Step) (s : Step) (events part : List Happened) → Backs base bodies t steps events
     → HasPutOf base bodies (job_sent (table_after t steps).job s.deed s.mark) part → Backs base bodies t (steps ++ s ∷ []) (events ++ part)
 backs_push base bodies t [] s events part backs put =
     (events ++ part, [], sym (append-nil (events ++ part)), put_of_behind base bodies (job_sent t.job s.deed s.mark) events part put, tt)
-backs_push base bodies t (x ∷ steps) s events part backs put =
-    (backs.0, backs.1 ++ part, ap (λ (l : List Happened). l ++ part) backs.2 ∙ append_assoc backs.0 backs.1 part, backs.3,
-      backs_push base bodies (after t x.now x.deed) steps s backs.1 part backs.4 put)
+backs_push base bodies t (x ∷ steps) s events part backs put = (
+  backs.0,
+  backs.1 ++ part,
+  ap (λ (l : List Happened). l ++ part) backs.2 ∙ append_assoc backs.0 backs.1 part,
+  backs.3,
+  backs_push base bodies (after t x.now x.deed) steps s backs.1 part backs.4 put,
+)
+
+-- the calls of two runs of steps
+pub backs_both : (base : BaseParts) (bodies : ℕ → List ℕ) (t : DeskTable) (steps more : List Step) (events later : List Happened) → Backs base bodies t steps events → Backs base bodies (table_after t steps) more later
+    → Backs base bodies t (steps ++ more) (events ++ later)
+backs_both base bodies t [] more events later backs rest = backs_ahead base bodies t more events later rest
+backs_both base bodies t (s ∷ steps) more events later backs rest = (
+  backs.0,
+  backs.1 ++ later,
+  ap (λ (l : List Happened). l ++ later) backs.2 ∙ append_assoc backs.0 backs.1 later,
+  backs.3,
+  backs_both base bodies (after t s.now s.deed) steps more backs.1 later backs.4 rest,
+)
 
 -- the calls up to a step, the last of which are those of its request
 pub record PutUntil (base : BaseParts) (bodies : ℕ → List ℕ) (flight : Flight) (events : List Happened) : Type 0 where

@@ -1,5 +1,6 @@
 pub mod Exchanging
 pub mod Putting
-pub mod Backing
-pub mod Whole
 pub mod SentJobs
+pub mod Backing
+pub mod Turning
+pub mod Whole

@@ -16,12 +16,7 @@ use std::alloc::Global;
 /// Sends the bytes of a job, only if what is there is what was known of the file as the job was taken, and tells
 /// how the job ends. It ends as sent only where the whole request went and a whole reply said that the server did
 /// what was asked.
-pub fn send_job<V: Wire>(
-    alloc: Global,
-    base: &Base,
-    wire: &mut V,
-    job: Job,
-) -> Result<Done, Memory>
+pub fn send_job<V: Wire>(alloc: Global, base: &Base, wire: &mut V, job: Job) -> Result<Done, Memory>
     ensures sends { Sends base.now job (V.log wire.old) (V.log wire.new) result }
     ensures done { IfOk result IsDone }
     ensures put { (seen : Seen) → result ≡ Ok (Sent seen) → (bodies : ℕ → List ℕ) → bodies job.body.file ≡ job.bytes

@@ -12,4 +12,6 @@ mod tests;
 pub use came::Came;
 pub use ending::send_job;
 pub use exchange::upload;
-pub use laws::{last_bytes_are_kept_whole, last_bytes_outlive_a_stop};
+pub use laws::{
+    backs_join, last_bytes_are_kept_whole, last_bytes_outlive_a_stop, turns_are_backed,
+};
