@@ -1,9 +1,9 @@
 -- From rows and bodies to tables.
-use Rattle.std.proofs.Common.{◌≡◌, ◌⊎◌, inl, inr, ℕ, ◌≤◌, List, [], ◌∷◌, ◌++◌, Option, Result, Ok, Err, OnOk, sym, ap, subst}
+use Rattle.std.proofs.Common.{◌≡◌, inl, inr, ℕ, List, [], ◌∷◌, ◌++◌, Option, Result, Ok, Err, OnOk, sym, subst}
 use Rattle.std.specs.Prelude.{IfErr}
 use Rattle.dav_disk.specs.Disk.{Doubt}
 use Rattle.dav_index.specs.Bounds.{bodies_of, IsWithin}
-use Rattle.dav_index.specs.Tables.{replay, fresh_table}
+use Rattle.dav_index.specs.Tables.{fresh_table}
 use Rattle.dav_index.specs.declared.record.Record.{Record}
 use Rattle.dav_index.specs.declared.table.Table.{Table}
 use Rattle.dav_cache.specs.Stands.{EachImage, IsSafe, Stands, StandsEither}

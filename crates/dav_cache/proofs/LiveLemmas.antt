@@ -1,27 +1,27 @@
 -- How a desk on a disk goes on from step to step.
-use Rattle.std.proofs.Common.{◌≡◌, ◌⊎◌, inl, inr, ℕ, ◌+◌, ◌<◌, ◌≤◌, List, [], ◌∷◌, ◌++◌, Option, Some, None, refl, sym, ◌∙◌, ap, subst, arith, append_assoc}
+use Rattle.std.proofs.Common.{◌≡◌, ◌⊎◌, inl, inr, ℕ, ◌<◌, ◌≤◌, List, [], ◌∷◌, ◌++◌, Option, Some, None, false, refl, sym, ◌∙◌, ap, subst, arith, append_assoc}
 use Rattle.std.proofs.lemmas.List.{append-nil}
 use Rattle.std.proofs.lemmas.Bool.{cases_lt}
-use Rattle.std.specs.Prelude.{Vec}
-use Rattle.std.specs.declared.alloc.Global.{Global}
-use Rattle.dav_disk.specs.Disk.{Doubt, IsOutcome, IsImage, MightLeave, Touches}
+use Rattle.dav_disk.specs.Disk.{Doubt, IsOutcome, IsImage, Touches}
 use Rattle.dav_index.specs.Items.{Every}
-use Rattle.dav_index.specs.Tables.{replay}
+use Rattle.dav_index.specs.Tables.{replay, fresh_table, restarted}
 use Rattle.dav_index.specs.declared.table.Table.{Table}
 use Rattle.dav_index.specs.declared.record.Record.{Record}
-use Rattle.dav_deeds.specs.DeskTable.{DeskTable, reopened, started}
+use Rattle.dav_deeds.specs.DeskTable.{DeskTable, started}
 use Rattle.dav_deeds.specs.Effects.{after, record_of, recorded}
 use Rattle.dav_deeds.specs.Legal.{IsLegal, Legal, table_after}
 use Rattle.dav_deeds.specs.declared.deed.Step.{Step}
-use Rattle.dav_deeds.proofs.Fates.{legal_push}
-use Rattle.dav_deeds.proofs.Restart.{reopens}
+use Rattle.dav_deeds.proofs.Fates.{legal_front, legal_push}
+use Rattle.dav_deeds.proofs.Restart.{changed_reopens, reopens}
+use Rattle.dav_deeds.specs.declared.deed.Mark.TheVariants.{Plain}
 use Rattle.dav_deeds.proofs.Taking.{table_push}
-use Rattle.dav_cache.specs.Stands.{EachImage}
-use Rattle.dav_cache.specs.Recovers.{Recovers, RecoversEither, IsConsistent}
+use Rattle.dav_index.specs.Bounds.{bodies_of}
+use Rattle.dav_cache.specs.Stands.{EachBody, EachImage, Stands}
+use Rattle.dav_cache.specs.Recovers.{Replays, rows_of, Recovers, RecoversEither, IsConsistent}
 use Rattle.dav_cache.specs.Planned.{kept_table}
 use Rattle.dav_cache.specs.Survives.{IsFront, HasUnder, Survives, SurviveAll, with_under, IsLive, IsLeft}
 use Rattle.dav_cache.specs.declared.recorder.Recorder.{Recorder}
-use Rattle.dav_cache.proofs.Standing.{safe_stands}
+use Rattle.dav_cache.proofs.Standing.{safe_stands, safe_still, stands_still}
 
 later_push : (m : ℕ) (steps : List Step) (s : Step) → Every (λ (x : Step). m < x.moment) steps → m < s.moment → Every (λ (x : Step). m < x.moment) (steps ++ s ∷ [])
 later_push m [] s all lt = (lt, tt)
@@ -178,3 +178,82 @@ module _ {D : Type 0} (moment : D → ℕ) (seen : D → ℕ → List ℕ) (past
                 (λ image left. subst (λ (t : Table). Recovers url t bodies image) (sym kept) (consistent_image consistent image left)));
             idle = idle;
           }
+
+  -- a look at the disk
+  pub live_looks : (new : Recorder D) → Touches (λ _. ⊥) (moment old.disk) (moment new.disk) (past old.disk) (past new.disk) → seen new.disk 0 ≡ seen old.disk 0 → new.journal.end ≡ old.journal.end → new.trace.steps.items ≡ steps → new.under ≡ old.under
+      → IsLive moment seen past url opening start bodies new
+  live_looks new touches seen_same end_same same under =
+      let c = is.consistent in
+      let there : kept_table now_table ≡ kept_table (table_after opening new.trace.steps.items) = ap (λ (l : List Step). kept_table (table_after opening l)) (sym same) in
+      let spared : EachBody (bodies_of (kept_table now_table)) (λ id. ⊥ → ⊥) = λ id named never. never in
+      let safe = safe_still touches (bodies_of (kept_table now_table)) bodies spared c.safe.kept (rows_of url c.records) old.journal.end (seen old.disk) c.safe.index (λ never. never) (seen new.disk) seen_same in
+      let images : EachImage (past new.disk) (moment old.disk) (moment new.disk) (Recovers url (kept_table now_table) bodies) =
+      λ k image lo hi left. inr (record {
+        records = c.records;
+        replays = c.replays;
+        stands = stands_still touches (bodies_of (kept_table now_table)) bodies spared c.safe.kept (rows_of url c.records) old.journal.end (seen old.disk) c.safe.index (λ never. never) k image lo hi left;
+      }) in
+      record {
+        begun = omega (arith, is.begun, touches.later);
+        legal = subst (λ (l : List Step). Legal opening l) (sym same) is.legal;
+        consistent = subst (λ (t : Table). IsConsistent url t bodies new.journal.end (seen new.disk) (past new.disk (moment new.disk))) there
+            (subst (λ (n : ℕ). IsConsistent url (kept_table now_table) bodies n (seen new.disk) (past new.disk (moment new.disk))) (sym end_same)
+            (record { records = c.records; replays = c.replays; safe = safe }));
+        survive = subst (λ (l : List Step). SurviveAll (past new.disk) start (moment new.disk) url opening l None bodies) (sym same)
+            (survive_without url opening bodies steps is.survive touches.before None images);
+        idle = under ∙ is.idle;
+      }
+
+-- files that no body is kept in are emptied
+pub quiet_images : {url : List ℕ} {table : Table} {bodies : ℕ → List ℕ} {end : ℕ} {seen : ℕ → List ℕ} {doubts : ℕ → Doubt} (is : IsConsistent url table bodies end seen doubts) (past : ℕ → ℕ → Doubt) (from to : ℕ)
+    → EachImage past from to (Stands (rows_of url is.records) (bodies_of table) bodies) → EachImage past from to (Recovers url table bodies)
+quiet_images is past from to images k image lo hi left = inr (record { records = is.records; replays = is.replays; stands = images k image lo hi left })
+
+-- a replay and a start in either order
+replay_restarts : (t : Table) (r : Record) → restarted (replay t r) ≡ replay (restarted t) r
+replay_restarts t r = ap (λ (d : DeskTable). d.index) (changed_reopens (started t) (record {
+  mark = Plain;
+  told = None;
+  on_record = Some r;
+  waits = None;
+  released = [];
+  job = None;
+  jobs = 0;
+  stopping = false;
+}))
+
+restarted_same : (before : Table) (records : List Record) (after : Table) → restarted before ≡ before → Replays before records after → restarted after ≡ after
+restarted_same before [] after same is = ap restarted is ∙ same ∙ sym is
+restarted_same before (r ∷ records) after same is = restarted_same (replay before r) records after (replay_restarts before r ∙ ap (λ (t : Table). replay t r) same) is.2
+
+-- a desk that has just begun
+pub live_begin : {D : Type 0} (moment : D → ℕ) (seen : D → ℕ → List ℕ) (past : D → ℕ → ℕ → Doubt) (url : List ℕ) (table : Table) (start : ℕ) (bodies : ℕ → List ℕ) (desk : Recorder D) → start ≤ moment desk.disk
+    → IsConsistent url table bodies desk.journal.end (seen desk.disk) (past desk.disk (moment desk.disk)) → EachImage (past desk.disk) start (moment desk.disk) (Recovers url table bodies) → desk.trace.steps.items ≡ [] → desk.under ≡ None
+    → IsLive moment seen past url (started table) start bodies desk
+live_begin moment seen past url table start bodies desk begun consistent images none idle =
+    let same : restarted table ≡ table = restarted_same fresh_table consistent.records table refl consistent.replays in
+    let there : table ≡ kept_table (table_after (started table) desk.trace.steps.items) = sym same ∙ ap (λ (l : List Step). kept_table (table_after (started table) l)) (sym none) in
+    record {
+      begun = begun;
+      legal = subst (λ (l : List Step). Legal (started table) l) (sym none) tt;
+      consistent = subst (λ (t : Table). IsConsistent url t bodies desk.journal.end (seen desk.disk) (past desk.disk (moment desk.disk))) there consistent;
+      survive = λ k image lo hi left. survives_all url (started table) bodies desk.trace.steps.items None k image (subst (λ (t : Table). Recovers url t bodies image) there (images k image lo hi left));
+      idle = idle;
+    }
+
+pub live_begin_at : {D : Type 0} (moment : D → ℕ) (seen : D → ℕ → List ℕ) (past : D → ℕ → ℕ → Doubt) (url : List ℕ) (table : Table) (start : ℕ) (bodies : ℕ → List ℕ) (desk : Recorder D) (disk : D) (end : ℕ) → desk.disk ≡ disk → desk.journal.end ≡ end → start ≤ moment disk
+    → IsConsistent url table bodies end (seen disk) (past disk (moment disk)) → EachImage (past disk) start (moment disk) (Recovers url table bodies) → desk.trace.steps.items ≡ [] → desk.under ≡ None
+    → IsLive moment seen past url (started table) start bodies desk
+live_begin_at {D} moment seen past url table start bodies desk disk end disk_is end_is begun consistent images none idle =
+    live_begin moment seen past url table start bodies desk (subst (λ (d : D). start ≤ moment d) (sym disk_is) begun)
+    (subst (λ (d : D). IsConsistent url table bodies desk.journal.end (seen d) (past d (moment d))) (sym disk_is) (subst (λ (n : ℕ). IsConsistent url table bodies n (seen disk) (past disk (moment disk))) (sym end_is) consistent))
+    (subst (λ (d : D). EachImage (past d) start (moment d) (Recovers url table bodies)) (sym disk_is) images) none idle
+
+legal_steps : (opening : DeskTable) (steps : List Step) (under : Option Step) → Legal opening (with_under steps under) → Legal opening steps
+legal_steps opening steps None legal = legal
+legal_steps opening steps (Some s) legal = legal_front opening steps (s ∷ []) legal
+
+-- the steps that survive are legal
+pub legal_done : (opening : DeskTable) (m : ℕ) (steps done : List Step) (under : Option Step) → Legal opening (with_under steps under) → IsFront m steps done ⊎ HasUnder under steps done → Legal opening done
+legal_done opening m steps done under legal (inl front) = legal_front opening done front.rest (subst (λ (l : List Step). Legal opening l) front.split (legal_steps opening steps under legal))
+legal_done opening m steps done under legal (inr over) = subst (λ (l : List Step). Legal opening l) (sym over.2) (subst (λ (u : Option Step). Legal opening (with_under steps u)) over.1 legal)

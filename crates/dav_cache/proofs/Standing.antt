@@ -1,5 +1,5 @@
 -- Rows and bodies while device calls go on.
-use Rattle.std.proofs.Common.{◌≡◌, ◌⊎◌, inl, inr, ℕ, ◌+◌, ◌<◌, ◌≤◌, List, [], ◌∷◌, ◌++◌, length, get_or, take, Option, Some, None, refl, sym, ◌∙◌, ap, subst, arith}
+use Rattle.std.proofs.Common.{◌≡◌, inl, inr, ℕ, ◌<◌, ◌≤◌, List, [], ◌∷◌, ◌++◌, length, get_or, take, Option, Some, None, sym, ◌∙◌, ap, subst, arith}
 use Rattle.std.proofs.lemmas.List.{take_all}
 use Rattle.std.proofs.lemmas.Bool.{cases_lt}
 use Rattle.std.proofs.lemmas.List.Elements.{Contains-get_or}
@@ -10,7 +10,7 @@ use Rattle.dav_disk.proofs.Stretch.{touches_join, touches_wider}
 use Rattle.dav_store.specs.Body.{id_of}
 use Rattle.dav_store.specs.Rows.{Spells, IsAtRest, IsReady, IsBeforeOrAfter}
 use Rattle.dav_store.specs.declared.body_id.BodyId.{BodyId}
-use Rattle.dav_cache.specs.Stands.{EachBody, IsGiven, IsIn, IsHeld, Stands, IsSafe, EachImage, StandsEither, IsFile, IsAdding, Spares}
+use Rattle.dav_cache.specs.Stands.{EachBody, IsIn, IsHeld, Stands, IsSafe, EachImage, StandsEither, IsFile, IsAdding, Spares}
 
 -- a stretch of calls behind another
 pub images_join : {from mid to : ℕ} {a b : ℕ → ℕ → Doubt} (P : (ℕ → List ℕ) → Type 0) → EachImage a from mid P → ((k f : ℕ) → k ≤ mid → b k f ≡ a k f) → EachImage b mid to P → EachImage b from to P

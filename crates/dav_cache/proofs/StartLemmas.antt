@@ -1,13 +1,13 @@
 -- What a start reads, and what it leaves.
-use Rattle.std.proofs.Common.{◌≡◌, ◌≢◌, ◌⊎◌, inl, inr, ℕ, ◌+◌, ◌*◌, ◌/◌, ◌%◌, ◌<◌, ◌≤◌, List, [], ◌∷◌, ◌++◌, length, map, drop, take, Bool, true, false, if◌then◌else◌, nat_eq, refl, sym, ◌∙◌, ap, subst, arith, append_assoc, length-append}
-use Rattle.std.proofs.lemmas.List.{map-append, length-map, drop_at}
-use Rattle.std.proofs.lemmas.Bool.{cases_eq, cases_lt, eq-eqb, eqb-true}
+use Rattle.std.proofs.Common.{◌≡◌, ◌≢◌, ◌⊎◌, inl, inr, Option, Some, ℕ, ◌/◌, ◌%◌, ◌<◌, ◌≤◌, List, [], ◌∷◌, ◌++◌, length, map, drop, take, Bool, true, false, if◌then◌else◌, nat_eq, refl, sym, ◌∙◌, ap, subst, arith, append_assoc, length-append}
+use Rattle.std.proofs.lemmas.List.{map-append, drop_at}
+use Rattle.std.proofs.lemmas.Bool.{cases_eq, eq-eqb, eqb-true}
 use Rattle.std.proofs.lemmas.List.Elements.{All-contains, All-from_recursion}
 use Rattle.std.specs.List.{Contains}
 use Rattle.dav_disk.specs.Disk.{Doubt, IsOutcome, IsImage, Touches, LeavesOnly}
 use Rattle.dav_store.specs.Rows.{row_text, Rows, Spells, HasRow, IsBroken, IsReading, IsAtRest}
-use Rattle.std.specs.Str.{IsUtf8}
 use Rattle.dav_machine.specs.Log.{Rose}
+use Rattle.dav_store.specs.Body.{IsDamage}
 use Rattle.dav_store.specs.Cause.{IsNoDamage}
 use Rattle.dav_store.specs.declared.fault.StoreFault.{StoreFault}
 use Rattle.dav_store.specs.declared.fault.StoreFault.TheVariants as store
@@ -23,7 +23,7 @@ use Rattle.dav_index.specs.declared.table.Table.{Table}
 use Rattle.dav_index.specs.declared.record.Record.{Record}
 use Rattle.dav_cache.specs.Stands.{EachBody, IsIn, IsHeld, EachImage}
 use Rattle.dav_cache.specs.Recovers.{Replays, rows_of, IsRecorded, Recovers, AllRecover, IsConsistent}
-use Rattle.dav_cache.specs.Opening.{IsIndexOf, IsNoRecord, IsBadRow, IsNoCache, IsRead, IsOpened, IsStartFault, IsOther, desk_fault}
+use Rattle.dav_cache.specs.Opening.{IsIndexOf, IsNoRecord, IsBadRow, IsNoCache, IsRead, IsOpened, IsStartFault, IsOther, IsFetchFault, desk_fault, dead_after}
 use Rattle.dav_cache.proofs.Standing.{images_quiet, rest_spells}
 
 -- where a row stands, something stands
@@ -267,3 +267,22 @@ bad_before {url} {at} file short bad same made = elim (nothing_or file) [
   | inl none ↦ absurd (made_sound url at (made none) bad)
   | inr some ↦ inr (inr (short, subst (λ (l : List ℕ). IsBadRow url at l) (same some) bad))
 ]
+
+pub fetch_fault : (honest : Type 0) (id : BodyId) (file : List ℕ) (before now : ℕ) (e : StoreFault) → (e ≡ store.Disk → Rose before now) → (honest → IsDamage id (take id.len file) e) → IsFetchFault honest id file before now (desk_fault e)
+fetch_fault honest id file before now store.Disk rose damage = rose refl
+fetch_fault honest id file before now (store.NotACache at) rose damage = damage
+fetch_fault honest id file before now (store.Damaged number stored found) rose damage = damage
+fetch_fault honest id file before now store.Memory rose damage = tt
+
+-- a desk is dead after every fault but want of memory
+pub dead_of : (old : Option DeskFault) (e : StoreFault) → (desk_fault e ≢ faults.Memory) → dead_after old e ≡ Some (desk_fault e)
+dead_of old store.Disk differs = refl
+dead_of old (store.NotACache at) differs = refl
+dead_of old (store.Damaged number stored found) differs = refl
+dead_of old store.Memory differs = absurd (differs refl)
+
+pub starved_of : (old : Option DeskFault) (e : StoreFault) → desk_fault e ≡ faults.Memory → (e ≡ store.Memory) × (dead_after old e ≡ old)
+starved_of old store.Disk is = cc is
+starved_of old (store.NotACache at) is = cc is
+starved_of old (store.Damaged number stored found) is = cc is
+starved_of old store.Memory is = (refl, refl)

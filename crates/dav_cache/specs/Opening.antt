@@ -1,7 +1,9 @@
 -- What an opening index says: its table, or where it is none.
-use Rattle.std.specs.Prelude.{◌≡◌, ◌≢◌, ◌⊎◌, ℕ, ◌<◌, List, [], ◌∷◌, ◌++◌, length}
+use Rattle.std.specs.Prelude.{◌≡◌, ◌≢◌, ◌⊎◌, ℕ, ◌<◌, List, ◌++◌, length, take, Option, Some}
 use Rattle.std.specs.Str.{IsUtf8}
+use Rattle.sha2.specs.Sha256.{sha256}
 use Rattle.dav_machine.specs.Log.{Rose}
+use Rattle.dav_store.specs.declared.body_id.BodyId.{BodyId}
 use Rattle.dav_disk.specs.Disk.{Doubt}
 use Rattle.dav_store.specs.Rows.{Rows, Spells, HasRow, IsBroken, IsReading, IsAtRest}
 use Rattle.dav_store.specs.Start.{IsNothing, IsRefused, head_of}
@@ -72,12 +74,32 @@ IsOther url head (Crowded oldest) = ⊥
 IsOther url head (Limit which) = ⊥
 IsOther url head Memory = Unit {0}
 
+-- why no bytes of a body are given: the disk failed in the call, or, where the disk is honest, those that its file begins with
+-- have another SHA-256, or there was no memory
+abbrev pub IsFetchFault : Type 0 → BodyId → List ℕ → ℕ → ℕ → DeskFault → Type 0
+IsFetchFault honest id file before now Disk = Rose before now
+IsFetchFault honest id file before now (NotACache at) = honest → ⊥
+IsFetchFault honest id file before now (Damaged number stored found) = honest → (number ≡ id.file) × (stored ≡ id.sum) × (found ≡ sha256 (take id.len file)) × (found ≢ stored)
+IsFetchFault honest id file before now (OtherServer kept asked) = ⊥
+IsFetchFault honest id file before now (Queued path) = ⊥
+IsFetchFault honest id file before now (NoSuchJob number) = ⊥
+IsFetchFault honest id file before now (Crowded oldest) = ⊥
+IsFetchFault honest id file before now (Limit which) = ⊥
+IsFetchFault honest id file before now Memory = Unit {0}
+
 -- a fault of the index or of the bodies as one of the desk
 abbrev pub desk_fault : StoreFault → DeskFault
 desk_fault store.Disk = Disk
 desk_fault (store.NotACache at) = NotACache at
 desk_fault (store.Damaged file stored found) = Damaged file stored found
 desk_fault store.Memory = Memory
+
+-- after that fault of a body the desk is dead, unless there was only no memory
+abbrev pub dead_after : Option DeskFault → StoreFault → Option DeskFault
+dead_after old store.Disk = Some Disk
+dead_after old (store.NotACache at) = Some (NotACache at)
+dead_after old (store.Damaged file stored found) = Some (Damaged file stored found)
+dead_after old store.Memory = old
 
 -- so far these records were read, and they led to the table
 pub record IsRead (url : List ℕ) (records : List Record) (table : Table) (end : ℕ) (seen : List ℕ) (doubt : Doubt) : Type 0 where

@@ -1,5 +1,5 @@
 -- The rows of an index with the bodies that they name, and the images that hold both.
-use Rattle.std.specs.Prelude.{◌≡◌, ◌⊎◌, ℕ, ◌<◌, ◌≤◌, List, [], ◌∷◌, ◌++◌, take, Option, Some, None}
+use Rattle.std.specs.Prelude.{◌≡◌, ◌⊎◌, ℕ, ◌≤◌, List, take, Option, Some, None}
 use Rattle.std.specs.List.{Contains}
 use Rattle.dav_disk.specs.Disk.{Doubt, IsOutcome, IsImage}
 use Rattle.dav_store.specs.Body.{id_of}

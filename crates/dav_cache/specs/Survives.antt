@@ -1,5 +1,5 @@
 -- What a stop leaves of a desk: the table after a front of its steps.
-use Rattle.std.specs.Prelude.{◌≡◌, ◌≢◌, ◌⊎◌, ℕ, ◌<◌, ◌≤◌, List, [], ◌∷◌, ◌++◌, Option, Some, None}
+use Rattle.std.specs.Prelude.{◌≡◌, ◌⊎◌, ℕ, ◌<◌, ◌≤◌, List, [], ◌∷◌, ◌++◌, Option, Some, None}
 use Rattle.dav_disk.specs.Disk.{Doubt, IsImage}
 use Rattle.dav_index.specs.Items.{Every}
 use Rattle.dav_deeds.specs.DeskTable.{DeskTable, reopened}

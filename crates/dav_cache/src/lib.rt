@@ -1,7 +1,14 @@
-//! The desk over a disk: what is stored is on the disk before it is answered, and a stop at any moment loses none of it.
+//! The disk of a desk: what a step changes is on the disk before it is answered, and a stop at any moment leaves the table from
+//! before the step or from after it.
 #![tactic(auto)]
 
 mod commit;
+mod laws;
+mod opening;
+mod reading;
 mod recorder;
+#[cfg(test)]
+mod tests;
 
+pub use laws::{last_bytes_survive, survives_from};
 pub use recorder::Recorder;

@@ -1,13 +1,13 @@
 -- A close keeps the bounds of a table.
-use Rattle.std.proofs.Common.{◌≡◌, ◌≢◌, ◌⊎◌, inl, inr, ℕ, ◌+◌, ◌-◌, ◌<◌, ◌≤◌, max, Bool, true, false, List, [], ◌∷◌, ◌++◌, length, Option, Some, None, is_some, nat_eq, refl, sym, ◌∙◌, ap, subst, arith, sum_by, if◌then◌else◌}
+use Rattle.std.proofs.Common.{◌≡◌, ◌≢◌, ◌⊎◌, inl, inr, ℕ, ◌+◌, ◌-◌, ◌<◌, ◌≤◌, max, Bool, true, false, List, length, Option, Some, None, is_some, nat_eq, refl, sym, ◌∙◌, ap, subst, arith, sum_by, if◌then◌else◌}
 use Rattle.std.specs.Prelude.{option_and_then}
-use Rattle.std.proofs.lemmas.Bool.{false≢true, eqb-true}
+use Rattle.std.proofs.lemmas.Bool.{eqb-true}
 use Rattle.dav_text.specs.Path.{PathParts}
 use Rattle.dav_text.specs.declared.tag.Seen.{Seen}
 use Rattle.dav_text.specs.declared.tag.Seen.TheVariants.{Unknown, Absent, Untagged, Tagged}
 use Rattle.dav_store.specs.declared.body_id.BodyId.{BodyId}
 use Rattle.dav_index.specs.Item.{Item}
-use Rattle.dav_index.specs.Items.{Every, IsMap, entry_at, with_entry_for, with_entry}
+use Rattle.dav_index.specs.Items.{Every, entry_at, with_entry}
 use Rattle.dav_index.specs.Records.{IsBare}
 use Rattle.dav_index.specs.Tables.{waiting_body, queued_body, queued_at, closed_seen, seen_before_close, closed_entry, replay}
 use Rattle.dav_index.specs.Bounds.{bodies_of, len_of, queued_count, queued_bytes, IsWithin}
@@ -16,8 +16,8 @@ use Rattle.dav_index.specs.declared.entry.Waiting.{Waiting}
 use Rattle.dav_index.specs.declared.lost.LostItem.{LostItem}
 use Rattle.dav_index.specs.declared.record.Record.TheVariants.{Closed}
 use Rattle.dav_index.specs.declared.table.Table.{Table}
-use Rattle.dav_deeds.proofs.Weights.{weight, EachEntry, length_weight}
-use Rattle.dav_deeds.proofs.Bodies.{of_body, of_entry, in_file, bodies_weight, OfBody, EachBody, each_body, bodies_each, every_weaker, none_beyond}
+use Rattle.dav_deeds.proofs.Weights.{weight, length_weight}
+use Rattle.dav_deeds.proofs.Bodies.{of_entry, in_file, bodies_weight, OfBody, EachBody, each_body, bodies_each, every_weaker, none_beyond}
 use Rattle.dav_deeds.proofs.Within.{IsKnown, KeepsBody, queued_one, bytes_in, old_weight, Puts, puts_by, one_if}
 
 closed_known : (seen : Seen) → closed_seen seen ≢ Unknown

@@ -1,5 +1,5 @@
 -- The entry of a path after each change of the entries.
-use Rattle.std.proofs.Common.{◌≡◌, ℕ, Bool, true, false, not, ◌&&◌, List, [], ◌∷◌, ◌++◌, Option, Some, None, filter, refl, sym, ◌∙◌, ap, subst, if◌then◌else◌}
+use Rattle.std.proofs.Common.{◌≡◌, Bool, true, false, ◌&&◌, List, [], ◌∷◌, Option, Some, None, refl, sym, ◌∙◌, ap}
 use Rattle.std.specs.Prelude.{option_map, option_and_then, is_some}
 use Rattle.std.proofs.lemmas.Bool.{false≢true}
 use Rattle.dav_text.specs.Path.{PathParts}
@@ -11,7 +11,7 @@ use Rattle.dav_index.specs.Bounds.{is_queued}
 use Rattle.dav_index.specs.declared.entry.Entry.{Entry}
 use Rattle.dav_index.specs.declared.entry.Waiting.{Waiting}
 use Rattle.dav_deeds.specs.Refusals.{queued_with}
-use Rattle.dav_deeds.proofs.Paths.{by_test, same_of, same_to, same_self, same_back, not_back, goes_at, goes_like}
+use Rattle.dav_deeds.proofs.Paths.{by_test, same_of, same_to, goes_at, goes_like}
 
 -- an entry at the head, by its test
 at_head : (p : PathParts) (x : Item) (xs : List Item) → has_path p x ≡ true → entry_at p (x ∷ xs) ≡ Some x.entry

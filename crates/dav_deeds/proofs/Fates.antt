@@ -1,5 +1,5 @@
 -- Over a legal trace what is queued of a path stays in line with what became of its last bytes.
-use Rattle.std.proofs.Common.{◌≡◌, ◌≢◌, ℕ, ◌+◌, Bool, true, false, List, [], ◌∷◌, ◌++◌, length, Option, Some, None, nat_eq, Contains, refl, sym, ◌∙◌, ap, subst, arith, append_assoc, length-append, if◌then◌else◌}
+use Rattle.std.proofs.Common.{◌≡◌, ℕ, Bool, true, false, List, [], ◌∷◌, ◌++◌, length, Option, Some, None, nat_eq, Contains, refl, sym, ◌∙◌, ap, subst, arith, append_assoc, length-append, if◌then◌else◌}
 use Rattle.std.proofs.lemmas.Bool.{eqb-true}
 use Rattle.dav_text.specs.Path.{PathParts}
 use Rattle.dav_text.specs.declared.tag.Seen.{Seen}
@@ -24,9 +24,9 @@ use Rattle.dav_deeds.specs.declared.fault.DeskFault.{DeskFault}
 use Rattle.dav_deeds.specs.declared.fault.DeskFault.TheVariants.{NoSuchJob}
 use Rattle.dav_deeds.specs.DeskTable.{DeskTable}
 use Rattle.dav_deeds.specs.Refusals.{job_fault, refusal_of}
-use Rattle.dav_deeds.specs.Effects.{store_effect, going, forgot_record, forget_effect, tried, take_effect, taken, fated_of, settle_effect, settle_by_fate, effect_done, effect_unless, is_current, recorded, changed, after, mark_of, told_of}
+use Rattle.dav_deeds.specs.Effects.{store_effect, going, forgot_record, forget_effect, tried, take_effect, taken, fated_of, settle_effect, settle_by_fate, effect_done, effect_unless, is_current, recorded, changed, after, mark_of}
 use Rattle.dav_deeds.specs.Legal.{IsLegal, table_after, Legal}
-use Rattle.dav_deeds.specs.Fate.{Fate, Queued, Sent, Lost, Story, tell, told_on, story, IsTaken, IsSentAt, IsLostAs, IsKeptAs, IsKept}
+use Rattle.dav_deeds.specs.Fate.{Fate, Queued, Sent, Lost, Story, tell, told_on, story, IsSentAt, IsLostAs, IsKeptAs, IsKept}
 use Rattle.dav_deeds.proofs.Fits.{Fits, StepFits, step_fits}
 use Rattle.dav_deeds.proofs.Queued.{waited_lost, lost_before}
 use Rattle.dav_deeds.proofs.Taking.{table_push, find_take}

@@ -9,14 +9,12 @@ use Rattle.dav_index.specs.Item.{Item}
 use Rattle.dav_index.specs.Items.{same_path}
 use Rattle.dav_index.specs.Tables.{has_file, queued_body, queued_at, replay}
 use Rattle.dav_index.specs.declared.lost.LostItem.{LostItem}
-use Rattle.dav_index.specs.declared.record.Record.{Record}
 use Rattle.dav_index.specs.declared.record.Record.TheVariants as records
 use Rattle.dav_index.specs.declared.table.Table.{Table}
 use Rattle.dav_deeds.specs.declared.answer.Fated.{Fated}
 use Rattle.dav_deeds.specs.declared.answer.Fated.TheVariants as fates
 use Rattle.dav_deeds.specs.declared.answer.Flight.{Flight}
 use Rattle.dav_deeds.specs.declared.answer.Told.{Told}
-use Rattle.dav_deeds.specs.declared.answer.Told.TheVariants as answers
 use Rattle.dav_deeds.specs.declared.ask.Done.{Done}
 use Rattle.dav_deeds.specs.declared.ask.Done.TheVariants as ends
 use Rattle.dav_deeds.specs.declared.deed.Deed.{Deed}
@@ -26,8 +24,8 @@ use Rattle.dav_deeds.specs.declared.deed.Mark.TheVariants as marks
 use Rattle.dav_deeds.specs.declared.fault.DeskFault.{DeskFault}
 use Rattle.dav_deeds.specs.DeskTable.{DeskTable}
 use Rattle.dav_deeds.specs.Refusals.{queued_with, queued_fault, refusal_of}
-use Rattle.dav_deeds.specs.Effects.{Wait, Effect, quiet, bare, store_effect, going, forgot_record, forget_effect, tried, take_effect, taken, is_current, fated_current, fated_again, waiting_at, fated_of, settle_by_fate, settle_effect, stop_effect, effect_done, effect_unless, effect_of, waited, recorded, changed, after, mark_of, told_of}
-use Rattle.dav_deeds.specs.Fate.{Fate, Queued, Sent, Lost, Story, is_queued, is_about, fate_settled, tell, IsLostAs}
+use Rattle.dav_deeds.specs.Effects.{Wait, Effect, quiet, bare, store_effect, going, forgot_record, forget_effect, tried, take_effect, taken, is_current, fated_current, fated_of, settle_by_fate, settle_effect, stop_effect, effect_done, effect_unless, waited, recorded, changed, after, mark_of, told_of}
+use Rattle.dav_deeds.specs.Fate.{Fate, Queued, Sent, Lost, Story, is_queued, is_about, tell, IsLostAs}
 use Rattle.dav_deeds.proofs.Paths.{by_test}
 use Rattle.dav_deeds.proofs.Entries.{entry_same}
 use Rattle.dav_deeds.proofs.Queued.{without, waited_queued, waited_lost, lost_more, closed_here, closed_other, sent_here, sent_other, lost_here, lost_other, lost_new, lost_before, forgot_queued}

@@ -1,12 +1,12 @@
 -- The job in flight stays within its bounds.
-use Rattle.std.proofs.Common.{◌≡◌, ◌≢◌, ℕ, zero, suc, ◌+◌, ◌<◌, ◌≤◌, Bool, true, false, List, [], ◌∷◌, ◌++◌, length, Option, Some, None, nat_eq, Contains, refl, sym, ◌∙◌, ap, subst, arith, sum_by, if◌then◌else◌}
+use Rattle.std.proofs.Common.{◌≡◌, ◌≢◌, ℕ, zero, suc, ◌+◌, ◌<◌, ◌≤◌, Bool, true, false, List, [], ◌∷◌, Option, Some, None, nat_eq, Contains, refl, sym, ◌∙◌, ap, subst, arith, sum_by}
 use Rattle.std.specs.Prelude.{option_and_then}
-use Rattle.std.proofs.lemmas.Bool.{false≢true, eqb-true, eq-eqb}
+use Rattle.std.proofs.lemmas.Bool.{false≢true, eq-eqb}
 use Rattle.std.proofs.lemmas.List.Sums.{sum_by-cons}
 use Rattle.dav_text.specs.Path.{PathParts}
 use Rattle.dav_store.specs.declared.body_id.BodyId.{BodyId}
 use Rattle.dav_index.specs.Item.{Item}
-use Rattle.dav_index.specs.Items.{Every, has_path, same_path, comes_before, PathsDiffer, IsMap, entry_at, with_changed, with_new, with_entry_for, with_entry, without_entry}
+use Rattle.dav_index.specs.Items.{Every, has_path, same_path, comes_before, PathsDiffer, entry_at, with_changed, with_new, with_entry_for, with_entry}
 use Rattle.dav_index.specs.Records.{IsBare}
 use Rattle.dav_index.specs.Tables.{waiting_body, queued_body, queued_at, closed_entry, replay, waiting_so}
 use Rattle.dav_index.specs.Bounds.{bodies_of, IsWithin}
@@ -21,7 +21,7 @@ use Rattle.dav_deeds.specs.Fate.{IsOfTable}
 use Rattle.dav_deeds.specs.Refusals.{queued_with}
 use Rattle.dav_deeds.specs.Sound.{IsOwn, IsFlightWithin}
 use Rattle.dav_deeds.proofs.Paths.{by_test, same_self, same_back}
-use Rattle.dav_deeds.proofs.Queued.{waited_queued, waited_lost, closed_here, closed_other, forgot_queued}
+use Rattle.dav_deeds.proofs.Queued.{waited_queued, closed_here, closed_other, forgot_queued}
 use Rattle.dav_deeds.proofs.Restart.{head_found, head_changed, head_new, none_changed, none_new}
 use Rattle.dav_deeds.proofs.Weights.{weight, without_each}
 use Rattle.dav_deeds.proofs.Bodies.{of_entry, of_body, in_file, bodies_weight, OfBody, EachBody, each_body, every_weaker}
@@ -87,11 +87,12 @@ module _ (file : ℕ) where
 
   none_in : (items : List Item) → weight (of_entry (in_file file)) items ≡ 0 → Every NotIn items
   none_in [] nil = tt
-  none_in (y ∷ ys) nil =
-      ((λ c is same.
-      let own : of_body (in_file file) y.entry.body ≡ 1 = ap (of_body (in_file file)) is ∙ own_one c same in
-      absurd (omega (arith, head_weight y ys, nil, own))),
-      none_in ys (omega (arith, head_weight y ys, nil)))
+  none_in (y ∷ ys) nil = (
+    (λ c is same.
+        let own : of_body (in_file file) y.entry.body ≡ 1 = ap (of_body (in_file file)) is ∙ own_one c same in
+        absurd (omega (arith, head_weight y ys, nil, own))),
+    none_in ys (omega (arith, head_weight y ys, nil)),
+  )
 
   -- of entries with one body in the file at most all that have one are of one path
   pub one_path : (items : List Item) (x : Item) (b : BodyId) → Contains items x → x.entry.body ≡ Some b → b.file ≡ file → weight (of_entry (in_file file)) items ≤ 1
@@ -99,23 +100,26 @@ module _ (file : ℕ) where
   one_path [] x b (k, lt, at) is same few = absurd (omega arith)
   one_path (y ∷ ys) x b (zero, lt, at) is same few =
       let own : of_body (in_file file) y.entry.body ≡ 1 = ap (λ (z : Item). of_body (in_file file) z.entry.body) at ∙ ap (of_body (in_file file)) is ∙ own_one b same in
-      let rest : weight (of_entry (in_file file)) ys ≡ 0 = omega (arith, head_weight y ys, few, own) in
-      ((λ c on in_it. subst (λ (z : Item). same_path x.path z.path ≡ true) (sym at) (same_self x.path)),
-      every_weaker NotIn (λ (y : Item). (c : BodyId) → y.entry.body ≡ Some c → c.file ≡ file → same_path x.path y.path ≡ true) ys (λ z none c on in_it. absurd (none c on in_it)) (none_in ys rest))
+      let rest : weight (of_entry (in_file file)) ys ≡ 0 = omega (arith, head_weight y ys, few, own) in (
+        (λ c on in_it. subst (λ (z : Item). same_path x.path z.path ≡ true) (sym at) (same_self x.path)),
+        every_weaker NotIn (λ (y : Item). (c : BodyId) → y.entry.body ≡ Some c → c.file ≡ file → same_path x.path y.path ≡ true) ys (λ z none c on in_it. absurd (none c on in_it)) (none_in ys rest),
+      )
   one_path (y ∷ ys) x b (suc k, lt, at) is same few =
       let there : Contains ys x = (k, omega arith, at) in
-      let one : 1 ≤ weight (of_entry (in_file file)) ys = weight_one ys x b there is same in
-      ((λ c on in_it.
-      let own : of_body (in_file file) y.entry.body ≡ 1 = ap (of_body (in_file file)) on ∙ own_one c in_it in
-      absurd (omega (arith, head_weight y ys, few, own, one))),
-      one_path ys x b there is same (omega (arith, head_weight y ys, few)))
+      let one : 1 ≤ weight (of_entry (in_file file)) ys = weight_one ys x b there is same in (
+        (λ c on in_it.
+            let own : of_body (in_file file) y.entry.body ≡ 1 = ap (of_body (in_file file)) on ∙ own_one c in_it in
+            absurd (omega (arith, head_weight y ys, few, own, one))),
+        one_path ys x b there is same (omega (arith, head_weight y ys, few)),
+      )
 
   none_lost : (ls : List LostItem) → sum_by (λ (l : LostItem). in_file file l.body) ls ≡ 0 → Every (λ (l : LostItem). l.body.file ≢ file) ls
   none_lost [] nil = tt
   none_lost (l ∷ ls) nil =
-      let head : sum_by (λ (l : LostItem). in_file file l.body) (l ∷ ls) ≡ in_file file l.body + sum_by (λ (l : LostItem). in_file file l.body) ls = sum_by-cons (λ (l : LostItem). in_file file l.body) l ls in
-      ((λ same. let own : in_file file l.body ≡ 1 = own_one l.body same in absurd (omega (arith, head, nil, own))),
-      none_lost ls (omega (arith, head, nil)))
+      let head : sum_by (λ (l : LostItem). in_file file l.body) (l ∷ ls) ≡ in_file file l.body + sum_by (λ (l : LostItem). in_file file l.body) ls = sum_by-cons (λ (l : LostItem). in_file file l.body) l ls in (
+        (λ same. let own : in_file file l.body ≡ 1 = own_one l.body same in absurd (omega (arith, head, nil, own))),
+        none_lost ls (omega (arith, head, nil)),
+      )
 
 not_none : {X : Type 0} (o : Option X) (x : X) → o ≡ Some x → o ≢ None
 not_none o x is none = let no : Some x ≡ None = sym is ∙ none in cc

@@ -12,3 +12,6 @@ pub mod Within
 pub mod Closing
 pub mod Flying
 pub mod Sounds
+pub mod Naming
+pub mod Released
+pub mod Resting

@@ -1,10 +1,9 @@
 -- A new entry is put in its order.
-use Rattle.std.proofs.Common.{◌≡◌, ℕ, Bool, true, false, List, [], ◌∷◌, Option, Some, None, refl, sym, ◌∙◌, ap, subst, if◌then◌else◌}
+use Rattle.std.proofs.Common.{◌≡◌, Bool, true, false, List, [], ◌∷◌, Some, None, refl, sym, ◌∙◌, ap, subst}
 use Rattle.std.specs.declared.cmp.Ordering.{Ordering}
 use Rattle.std.specs.declared.cmp.Ordering.TheVariants.{Less, Equal, Greater}
 use Rattle.std.specs.Ordering.{is_lt, nat_cmp, ordering_reverse}
 use Rattle.std.specs.Cmp.Lexicographic.{slice_cmp}
-use Rattle.std.specs.Cmp.{IsTotalOrder}
 use Rattle.std.proofs.lemmas.Bool.{false≢true}
 use Rattle.std.proofs.lemmas.Cmp.{nat_list_cmp_total}
 use Rattle.dav_text.specs.Path.{PathParts}
@@ -12,7 +11,7 @@ use Rattle.dav_index.specs.Item.{Item}
 use Rattle.dav_index.specs.Items.{Every, key_of, has_path, same_path, comes_before, IsOrdered, PathsDiffer, IsMap, entry_at, with_new}
 use Rattle.dav_index.specs.Records.{IsBare}
 use Rattle.dav_index.specs.declared.entry.Entry.{Entry}
-use Rattle.dav_deeds.proofs.Paths.{by_test, same_back, not_back}
+use Rattle.dav_deeds.proofs.Paths.{by_test, not_back}
 use Rattle.dav_deeds.proofs.Restart.{head_found, head_new, none_new}
 use Rattle.dav_deeds.proofs.Bodies.{every_weaker}
 

@@ -1,12 +1,12 @@
 -- Tests of paths, and what a test says.
-use Rattle.std.proofs.Common.{◌≡◌, ℕ, Bool, true, false, not, ◌&&◌, ◌||◌, List, [], ◌∷◌, length, take, Option, Some, None, nat_eq, refl, sym, ◌∙◌, ap, subst}
+use Rattle.std.proofs.Common.{◌≡◌, ℕ, Bool, true, false, ◌&&◌, ◌||◌, List, [], ◌∷◌, length, take, nat_eq, refl, sym, ◌∙◌, ap}
 use Rattle.std.specs.Prelude.{nat_lt}
 use Rattle.std.specs.Cmp.Lexicographic.{pointwise, same_text}
-use Rattle.std.proofs.lemmas.Bool.{false≢true, and_cases}
+use Rattle.std.proofs.lemmas.Bool.{false≢true}
 use Rattle.std.proofs.lemmas.Cmp.{nat_list_eq_equiv, lists_equiv}
 use Rattle.dav_text.specs.Path.{PathParts}
 use Rattle.dav_index.specs.Item.{Item}
-use Rattle.dav_index.specs.Items.{same_segments, same_path, has_path, is_below, goes_with}
+use Rattle.dav_index.specs.Items.{same_segments, same_path, is_below, goes_with}
 
 -- by a test
 pub by_test : {A : Type 0} (b : Bool) → (b ≡ true → A) → (b ≡ false → A) → A
@@ -54,5 +54,5 @@ goes_at top below p = same_path top p || (below && is_below top p)
 pub goes_like : (top : PathParts) (below : Bool) (p : PathParts) (x : Item) → same_path p x.path ≡ true → goes_with top below x ≡ goes_at top below p
 goes_like top below p x same =
     let P : List (List ℕ) → Bool = λ (s : List (List ℕ)). same_segments top.segments s
-        || (below && (nat_lt (length top.segments) (length s) && same_segments (take (length top.segments) s) top.segments)) in
+    || (below && (nat_lt (length top.segments) (length s) && same_segments (take (length top.segments) s) top.segments)) in
     ap P (sym (segments_same p.segments x.path.segments same))

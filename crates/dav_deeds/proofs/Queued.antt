@@ -1,13 +1,11 @@
 -- What is queued of a path, and what is lost, after each change of a table.
-use Rattle.std.proofs.Common.{◌≡◌, ℕ, ◌+◌, Bool, true, false, ◌||◌, List, [], ◌∷◌, ◌++◌, Option, Some, None, nat_eq, Contains, refl, sym, ◌∙◌, ap, subst, arith, if◌then◌else◌}
+use Rattle.std.proofs.Common.{◌≡◌, ℕ, ◌+◌, Bool, true, false, ◌||◌, Option, Some, None, nat_eq, Contains, refl, sym, ◌∙◌, ap, subst, arith, if◌then◌else◌}
 use Rattle.std.specs.Prelude.{option_map, option_and_then}
-use Rattle.std.proofs.lemmas.Bool.{false≢true}
 use Rattle.std.proofs.lemmas.List.Elements.{Contains-append_left, Contains-append_right}
 use Rattle.dav_text.specs.Path.{PathParts}
 use Rattle.dav_text.specs.declared.tag.Seen.{Seen}
 use Rattle.dav_store.specs.declared.body_id.BodyId.{BodyId}
-use Rattle.dav_index.specs.Item.{Item}
-use Rattle.dav_index.specs.Items.{same_path, entry_at, with_changed, without_entry}
+use Rattle.dav_index.specs.Items.{same_path, entry_at}
 use Rattle.dav_index.specs.Tables.{queued_body, queued_at, waiting_body, has_file, closed_entry, sent_entry, entries_after_loss, lost_as, replay}
 use Rattle.dav_index.specs.declared.entry.Entry.{Entry}
 use Rattle.dav_index.specs.declared.entry.Waiting.{Waiting}

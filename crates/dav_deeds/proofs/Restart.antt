@@ -1,12 +1,12 @@
 -- A start finds the table that the records give.
-use Rattle.std.proofs.Common.{◌≡◌, ℕ, ◌+◌, Bool, true, false, not, List, [], ◌∷◌, ◌++◌, map, Option, Some, None, filter, refl, sym, ◌∙◌, ap, if◌then◌else◌}
+use Rattle.std.proofs.Common.{◌≡◌, ℕ, ◌+◌, Bool, true, false, List, [], ◌∷◌, ◌++◌, map, Option, Some, None, refl, sym, ◌∙◌, ap, if◌then◌else◌}
 use Rattle.std.specs.Prelude.{option_map, option_and_then}
 use Rattle.dav_text.specs.Path.{PathParts}
 use Rattle.dav_text.specs.declared.tag.Seen.{Seen}
 use Rattle.dav_store.specs.declared.body_id.BodyId.{BodyId}
 use Rattle.dav_index.specs.Item.{Item}
 use Rattle.dav_index.specs.Items.{has_path, comes_before, entry_at, with_changed, with_new, with_entry_for, with_entry, goes_with, without_entry}
-use Rattle.dav_index.specs.Tables.{fresh_waiting, waiting_body, queued_body, queued_at, closed_entry, has_file, sent_entry, emptied_entry, entries_after_loss, entries_after, lost_as, lost_after, replay, restarted_waiting, restarted_item, restarted, waiting_so}
+use Rattle.dav_index.specs.Tables.{waiting_body, queued_body, queued_at, closed_entry, has_file, sent_entry, emptied_entry, entries_after_loss, entries_after, lost_as, lost_after, replay, restarted_waiting, restarted_item, restarted, waiting_so}
 use Rattle.dav_index.specs.declared.entry.Entry.{Entry}
 use Rattle.dav_index.specs.declared.entry.Waiting.{Waiting}
 use Rattle.dav_index.specs.declared.lost.LostItem.{LostItem}

@@ -1,5 +1,5 @@
 -- Each deed keeps a table sound.
-use Rattle.std.proofs.Common.{◌≡◌, ◌≢◌, ℕ, ◌+◌, ◌-◌, ◌^◌, ◌<◌, ◌≤◌, Bool, true, false, not, ◌&&◌, List, [], ◌∷◌, ◌++◌, length, Option, Some, None, is_some, nat_eq, nat_le, fold, refl, sym, ◌∙◌, ap, subst, arith, sum_by, length-append, append-nil, if◌then◌else◌}
+use Rattle.std.proofs.Common.{◌≡◌, ◌≢◌, ℕ, ◌+◌, ◌-◌, ◌^◌, ◌<◌, ◌≤◌, Bool, true, false, not, ◌&&◌, List, [], ◌∷◌, ◌++◌, length, Option, Some, None, nat_le, fold, refl, sym, ◌∙◌, ap, subst, arith, length-append, append-nil, if◌then◌else◌}
 use Rattle.std.specs.Prelude.{nat_lt, option_and_then}
 use Rattle.std.proofs.lemmas.Bool.{false≢true}
 use Rattle.std.proofs.lemmas.Bool.Decides.{nat_tests}
@@ -8,11 +8,11 @@ use Rattle.dav_text.specs.Path.{PathParts, IsPath, escaped, escaped_segments}
 use Rattle.dav_text.specs.declared.which.Which.TheVariants as limits
 use Rattle.dav_store.specs.declared.body_id.BodyId.{BodyId}
 use Rattle.dav_index.specs.Item.{Item}
-use Rattle.dav_index.specs.Items.{Every, entry_at, goes_with}
-use Rattle.dav_index.specs.Records.{IsBare, IsBody, IsRecord}
-use Rattle.dav_index.specs.Tables.{queued_body, queued_at, has_file, replay}
+use Rattle.dav_index.specs.Items.{entry_at}
+use Rattle.dav_index.specs.Records.{IsBare, IsRecord}
+use Rattle.dav_index.specs.Tables.{queued_body, queued_at, replay}
 use Rattle.dav_index.specs.Bounds.{is_queued, queued_count, len_of, queued_bytes, IsWithin}
-use Rattle.dav_index.specs.Queries.{is_older, older, oldest_clean, next_due}
+use Rattle.dav_index.specs.Queries.{is_older, older, oldest_clean}
 use Rattle.dav_index.specs.declared.entry.Entry.{Entry}
 use Rattle.dav_index.specs.declared.record.Record.{Record}
 use Rattle.dav_index.specs.declared.record.Record.TheVariants as records
@@ -26,13 +26,13 @@ use Rattle.dav_deeds.specs.declared.deed.Deed.{Deed}
 use Rattle.dav_deeds.specs.declared.deed.Deed.TheVariants.{Store, Forget, Take, Settle, Stop}
 use Rattle.dav_deeds.specs.declared.deed.Step.{Step}
 use Rattle.dav_deeds.specs.declared.fault.DeskFault.{DeskFault}
-use Rattle.dav_deeds.specs.declared.fault.DeskFault.TheVariants.{Queued, Crowded, Limit}
+use Rattle.dav_deeds.specs.declared.fault.DeskFault.TheVariants.{Limit}
 use Rattle.dav_deeds.specs.DeskTable.{DeskTable}
-use Rattle.dav_deeds.specs.Refusals.{is_there, lacks_place, lacks_bytes, lacks_known, crowding, full_or_crowded, store_refusal, queued_with, queued_fault, refusal_of}
-use Rattle.dav_deeds.specs.Effects.{Effect, quiet, bare, moment, pause, is_nothing, store_effect, going, forgot_record, forget_effect, tried, take_effect, taken, is_current, fated_current, fated_again, waiting_at, fated_of, settle_by_fate, settle_effect, effect_done, effect_unless, effect_of, waited, recorded, changed, after, loss_of_fate, record_of_fate, record_of}
+use Rattle.dav_deeds.specs.Refusals.{is_there, lacks_place, lacks_bytes, crowding, full_or_crowded, store_refusal, queued_with, queued_fault, refusal_of}
+use Rattle.dav_deeds.specs.Effects.{Effect, bare, moment, pause, is_nothing, store_effect, going, forgot_record, forget_effect, tried, take_effect, taken, is_current, fated_current, waiting_at, fated_of, settle_by_fate, settle_effect, effect_done, effect_unless, waited, recorded, changed, after, loss_of_fate, record_of_fate, record_of}
 use Rattle.dav_deeds.specs.Legal.{IsDone, IsBodyUnless, IsDeed, table_after, Legal}
-use Rattle.dav_deeds.specs.Sound.{IsOwn, IsFlightWithin, IsJobWithin, IsSound}
-use Rattle.dav_deeds.proofs.Paths.{by_test, same_self}
+use Rattle.dav_deeds.specs.Sound.{IsFlightWithin, IsJobWithin, IsSound}
+use Rattle.dav_deeds.proofs.Paths.{same_self}
 use Rattle.dav_deeds.proofs.Entries.{entry_same}
 use Rattle.dav_deeds.proofs.Taking.{taken_of}
 use Rattle.dav_deeds.proofs.Weights.{weight}
@@ -278,13 +278,15 @@ module _ (t : DeskTable) (s : IsSound t) where
   store_record : (now : ℕ) (path : PathParts) (len : ℕ) (body : Option BodyId) → IsPath path → store_refusal t.index path len ≡ None → IsBodyUnless None t.index.next_file len body → Fits (store_effect t path now body).on_record
   store_record now path len None is free h = tt
   store_record now path len (Some body) is free h =
-      let f : IsFree t.index path len = store_free t.index path len s.index free in
-      (bare_is path is, record {
-        file = omega (arith, h.0, s.index.room_for_lost, s.index.numbers_begin);
-        file_fits = omega (arith, h.0, f.files_left);
-        len_fits = omega (arith, h.1, f.short);
-        sum_size = h.2;
-      })
+      let f : IsFree t.index path len = store_free t.index path len s.index free in (
+        bare_is path is,
+        record {
+          file = omega (arith, h.0, s.index.room_for_lost, s.index.numbers_begin);
+          file_fits = omega (arith, h.0, f.files_left);
+          len_fits = omega (arith, h.1, f.short);
+          sum_size = h.2;
+        },
+      )
 
   forget_record : (path : PathParts) (locks below : Bool) → IsPath path → (items : List Item) → Fits (forgot_record path locks below items)
   forget_record path locks below is [] = tt

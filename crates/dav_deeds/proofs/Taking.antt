@@ -1,29 +1,26 @@
 -- What the job in flight was taken of.
-use Rattle.std.proofs.Common.{◌≡◌, ◌⊎◌, inl, inr, ℕ, zero, suc, ◌+◌, ◌<◌, Bool, true, false, ◌&&◌, List, [], ◌∷◌, ◌++◌, length, Option, Some, None, Contains, fold, refl, sym, ◌∙◌, ap, subst, arith, append_assoc, append-nil, if◌then◌else◌}
+use Rattle.std.proofs.Common.{◌≡◌, ◌⊎◌, inl, inr, ℕ, Bool, true, false, ◌&&◌, List, [], ◌∷◌, ◌++◌, Option, Some, None, Contains, fold, refl, sym, ◌∙◌, ap, subst, arith, append_assoc, append-nil, if◌then◌else◌}
 use Rattle.std.proofs.lemmas.Bool.{false≢true}
-use Rattle.std.proofs.lemmas.List.Elements.{Contains-append_left, Contains-append_right}
+use Rattle.std.proofs.lemmas.List.Elements.{Contains-append_right}
 use Rattle.dav_text.specs.Path.{PathParts}
 use Rattle.dav_store.specs.declared.body_id.BodyId.{BodyId}
 use Rattle.dav_index.specs.Item.{Item}
 use Rattle.dav_index.specs.Tables.{waiting_body}
 use Rattle.dav_index.specs.Queries.{is_due, is_sooner, is_next, sooner, next_due}
 use Rattle.dav_index.specs.declared.entry.Waiting.{Waiting}
-use Rattle.dav_deeds.specs.declared.answer.Fated.{Fated}
 use Rattle.dav_deeds.specs.declared.answer.Flight.{Flight}
 use Rattle.dav_deeds.specs.declared.answer.Told.{Told}
 use Rattle.dav_deeds.specs.declared.answer.Told.TheVariants as answers
 use Rattle.dav_deeds.specs.declared.ask.Done.{Done}
 use Rattle.dav_deeds.specs.declared.deed.Deed.{Deed}
 use Rattle.dav_deeds.specs.declared.deed.Deed.TheVariants.{Store, Forget, Take, Settle, Stop}
-use Rattle.dav_deeds.specs.declared.deed.Mark.TheVariants as marks
 use Rattle.dav_deeds.specs.declared.deed.Step.{Step}
 use Rattle.dav_deeds.specs.declared.fault.DeskFault.{DeskFault}
 use Rattle.dav_deeds.specs.DeskTable.{DeskTable}
 use Rattle.dav_deeds.specs.Refusals.{refusal_of}
-use Rattle.dav_deeds.specs.Effects.{Effect, quiet, store_effect, forget_effect, take_effect, flight_with, flight_of, next_job, taken_beside, taken, settle_effect, settle_by_fate, effect_done, effect_unless, after, told_of}
+use Rattle.dav_deeds.specs.Effects.{store_effect, take_effect, flight_with, flight_of, next_job, taken_beside, taken, settle_effect, effect_done, effect_unless, after, told_of}
 use Rattle.dav_deeds.specs.Fate.{IsOfTable, IsTaken}
-use Rattle.dav_deeds.specs.Legal.{IsLegal, table_after, Legal}
-use Rattle.dav_deeds.proofs.Paths.{by_test}
+use Rattle.dav_deeds.specs.Legal.{table_after, Legal}
 
 -- the best one so far is of the list, and its bytes may be sent
 pub record IsPick (now : ℕ) (stopping : Bool) (items : List Item) (x : Item) : Type 0 where

@@ -1,11 +1,10 @@
 -- Sums over entries, and facts of each entry, after each change of the entries.
-use Rattle.std.proofs.Common.{◌≡◌, ℕ, ◌+◌, ◌≤◌, Bool, true, false, not, List, [], ◌∷◌, length, Option, Some, None, filter, refl, sym, ◌∙◌, ap, subst, arith, sum_by, if◌then◌else◌}
+use Rattle.std.proofs.Common.{◌≡◌, ℕ, ◌+◌, ◌≤◌, Bool, true, false, List, [], ◌∷◌, length, Some, None, filter, refl, sym, ◌∙◌, ap, subst, arith, sum_by, if◌then◌else◌}
 use Rattle.std.proofs.lemmas.List.Sums.{sum_by-cons}
 use Rattle.dav_text.specs.Path.{PathParts}
 use Rattle.dav_index.specs.Item.{Item}
 use Rattle.dav_index.specs.Items.{Every, has_path, comes_before, entry_at, with_changed, with_new, goes_with, without_entry}
 use Rattle.dav_index.specs.declared.entry.Entry.{Entry}
-use Rattle.dav_deeds.proofs.Paths.{by_test}
 use Rattle.dav_deeds.proofs.Restart.{head_found, head_changed, head_new, head_without, none_found, none_changed, none_new, none_without}
 
 -- the sum of what the entries weigh

@@ -1,30 +1,27 @@
 -- Each change of a table keeps its bounds.
-use Rattle.std.proofs.Common.{◌≡◌, ◌≢◌, ℕ, ◌+◌, ◌-◌, ◌<◌, ◌≤◌, max, Bool, true, false, List, [], ◌∷◌, ◌++◌, length, map, Option, Some, None, is_some, nat_eq, refl, sym, ◌∙◌, ap, subst, arith, sum_by, count_by, length-append, if◌then◌else◌}
+use Rattle.std.proofs.Common.{◌≡◌, ◌≢◌, ℕ, ◌+◌, ◌<◌, ◌≤◌, max, Bool, true, false, List, [], ◌∷◌, ◌++◌, length, Option, Some, None, is_some, nat_eq, refl, sym, ◌∙◌, ap, subst, arith, sum_by, count_by, length-append, if◌then◌else◌}
 use Rattle.std.specs.Prelude.{option_map, option_and_then, filter}
-use Rattle.std.proofs.lemmas.Bool.{false≢true}
 use Rattle.std.proofs.lemmas.Bool.Decides.{nat_tests}
-use Rattle.std.proofs.lemmas.List.Sums.{sum_by-cons, sum_by-append, sum_by_push}
+use Rattle.std.proofs.lemmas.List.Sums.{sum_by-cons, sum_by_push}
 use Rattle.dav_text.specs.Path.{PathParts}
 use Rattle.dav_text.specs.declared.tag.Seen.{Seen}
 use Rattle.dav_text.specs.declared.tag.Seen.TheVariants.{Unknown, Absent, Untagged, Tagged}
 use Rattle.dav_store.specs.declared.body_id.BodyId.{BodyId}
 use Rattle.dav_index.specs.Item.{Item}
-use Rattle.dav_index.specs.Items.{Every, has_path, same_path, comes_before, IsOrdered, PathsDiffer, IsMap, entry_at, with_changed, with_new, with_entry_for, with_entry, goes_with, without_entry}
+use Rattle.dav_index.specs.Items.{Every, has_path, same_path, comes_before, IsOrdered, PathsDiffer, IsMap, entry_at, with_changed, with_new, with_entry_for, goes_with, without_entry}
 use Rattle.dav_index.specs.Records.{IsBare, IsNoted}
-use Rattle.dav_index.specs.Tables.{fresh_waiting, waiting_body, queued_body, queued_at, closed_seen, closed_entry, has_file, sent_entry, entries_after_loss, lost_as, replay, waiting_so}
-use Rattle.dav_index.specs.Bounds.{bodies_of, len_of, is_queued, queued_count, queued_bytes, HasBody, IsWithin}
+use Rattle.dav_index.specs.Tables.{waiting_body, queued_body, queued_at, has_file, sent_entry, entries_after_loss, lost_as, replay, waiting_so}
+use Rattle.dav_index.specs.Bounds.{bodies_of, len_of, IsWithin}
 use Rattle.dav_index.specs.declared.entry.Entry.{Entry}
 use Rattle.dav_index.specs.declared.entry.Waiting.{Waiting}
 use Rattle.dav_index.specs.declared.lost.LostItem.{LostItem}
-use Rattle.dav_index.specs.declared.record.Record.{Record}
-use Rattle.dav_index.specs.declared.record.Record.TheVariants.{Forgot, Closed, Sent, Lost}
+use Rattle.dav_index.specs.declared.record.Record.TheVariants.{Forgot, Sent, Lost}
 use Rattle.dav_index.specs.declared.table.Table.{Table}
 use Rattle.dav_deeds.specs.Effects.{Wait, waited}
-use Rattle.dav_deeds.proofs.Paths.{by_test}
 use Rattle.dav_deeds.proofs.Restart.{head_changed, head_without, none_changed, none_without}
 use Rattle.dav_deeds.proofs.Ordered.{new_is_map}
 use Rattle.dav_deeds.proofs.Weights.{weight, EachEntry, each_found, changed_weight, changed_less, new_weight, without_weight, going_weight, changed_each, new_each, without_each, changed_paths, length_weight}
-use Rattle.dav_deeds.proofs.Bodies.{of_body, of_entry, in_file, bodies_weight, OfBody, EachBody, each_body, bodies_each, every_append, every_weaker, none_beyond}
+use Rattle.dav_deeds.proofs.Bodies.{of_body, of_entry, in_file, bodies_weight, OfBody, EachBody, each_body, bodies_each, every_append, every_weaker}
 
 -- what the bounds ask of an entry
 abbrev pub IsKnown : Entry → Type 0
@@ -303,7 +300,7 @@ module _ (t : Table) (q : PathParts) (b : BodyId) (bare : IsBare q) (w : IsWithi
         let own : g old ≤ weight g (filter (goes_with q false) t.entries) = going_weight q g old t.entries at.found in
         omega arith
 
-    lost_bodies : (Q : BodyId → Type 0) → Every Q (bodies_of t) → Every Q (bodies_of lost_table)
+    pub lost_bodies : (Q : BodyId → Type 0) → Every Q (bodies_of t) → Every Q (bodies_of lost_table)
     lost_bodies Q h =
         let e : EachBody Q t.entries t.lost = each_body Q t h in
         bodies_each Q lost_table (record {

@@ -60,6 +60,14 @@ IsDeed t Take = Unit {0}
 IsDeed t (Settle job done) = IsDone done
 IsDeed t Stop = Unit {0}
 
+-- the body that a deed names
+abbrev pub new_body : Deed → Option BodyId
+new_body (Store path len body) = body
+new_body (Forget path locks below) = None
+new_body Take = None
+new_body (Settle job done) = None
+new_body Stop = None
+
 -- a step of a desk with this table. A take that finds nothing is no step
 pub record IsLegal (t : DeskTable) (s : Step) : Type 0 where
   pub deed : IsDeed t s.deed

@@ -12,4 +12,7 @@ pub use answer::{Answer, Fated, Flight, Job, Told};
 pub use ask::{Ask, Done, Who};
 pub use deed::{Deed, Mark, Step, Trace};
 pub use fault::DeskFault;
-pub use laws::{last_bytes_are_kept, records_are_enough};
+pub use laws::{
+    deeds_keep_bounds, deeds_name_one_body, last_bytes_are_kept, records_are_enough,
+    records_are_written, released_files_are_free, starts_keep_bodies,
+};

@@ -8,3 +8,9 @@ pub mod LostView
 pub mod Tables
 pub mod Bounds
 pub mod Queries
+pub mod Left
+pub mod Reading
+pub mod Flawed
+pub mod Places
+pub mod Ready
+pub mod Tests

@@ -1,4 +1,3 @@
-use Rattle.std.proofs.Common.{ℕ}
 use Rattle.dav_index.specs.Bounds.{bodies_of}
 use Rattle.dav_cache.specs.Recovers.{rows_of}
 use Rattle.dav_cache.proofs.DueLemmas.{on_ok_then, on_err_then, due_done, due_before, due_either}

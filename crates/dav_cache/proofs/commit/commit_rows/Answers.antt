@@ -1,4 +1,4 @@
-use Rattle.std.proofs.Common.{ℕ, List, [], ◌∷◌, ◌++◌, inr}
+use Rattle.std.proofs.Common.{[], ◌∷◌, ◌++◌, inr}
 use Rattle.dav_cache.specs.Stands.{StandsEither}
 use Rattle.dav_cache.proofs.Standing.{images_join, row_images, row_done}
 use Rattle.dav_cache.proofs.commit.commit_rows.Goals as goal

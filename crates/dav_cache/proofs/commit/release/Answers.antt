@@ -1,4 +1,4 @@
-use Rattle.std.proofs.Common.{ℕ, get_or, arith}
+use Rattle.std.proofs.Common.{get_or, arith}
 use Rattle.std.specs.List.{Contains}
 use Rattle.dav_disk.proofs.Stretch.{touches_begin}
 use Rattle.dav_cache.proofs.Standing.{stands_now, next_file, touches_file, free_goes, ready_goes}

@@ -1,8 +1,7 @@
-use Rattle.std.proofs.Common.{◌≡◌, ℕ, List, ◌∷◌, [], ◌++◌, refl, sym, ◌∙◌, ap, subst}
+use Rattle.std.proofs.Common.{◌≡◌, ℕ, ◌∷◌, [], ◌++◌, refl, sym, ◌∙◌, ap, subst}
 use Rattle.dav_store.specs.Rows.{IsReady}
 use Rattle.dav_index.specs.Tables.{replay}
 use Rattle.dav_deeds.specs.Legal.{table_after}
-use Rattle.dav_deeds.specs.declared.deed.Step.{Step}
 use Rattle.dav_cache.specs.Planned.{kept_table}
 use Rattle.dav_cache.specs.Survives.{IsLive}
 use Rattle.dav_cache.specs.declared.recorder.Recorder.{Recorder}

@@ -1,0 +1,19 @@
+use Rattle.std.proofs.Common.{ap, sym, subst}
+use Rattle.dav_store.specs.declared.journal.Journal.{Journal}
+use Rattle.dav_cache.specs.Stands.{EachImage}
+use Rattle.dav_cache.specs.Recovers.{Recovers}
+use Rattle.dav_cache.proofs.LiveLemmas.{live_begin_at}
+use Rattle.dav_cache.proofs.recorder.Recorder.start.Goals as goal
+
+pub returns-in-Ok-clause-live : goal.returns-in-Ok-clause-live
+returns-in-Ok-clause-live g c h table given all =
+    let both = c.in-Ok.ensures.table h table given all in
+    let touches = c.open.ensures.touches h in (
+      both.0,
+      live_begin_at g.D.Disk.moment g.D.Disk.seen g.D.Disk.past c.args.url.now table (g.D.Disk.moment c.args.disk) given c.begin.result c.open.new.disk c.in-Ok.opened.journal.end
+          c.begin.ensures.disk (ap (λ (j : Journal). j.end) c.begin.ensures.journal) touches.later both.1 (c.open.ensures.any_moment h table given all) c.begin.ensures.none c.begin.ensures.idle,
+    )
+
+pub returns-in-Ok-clause-any_moment : goal.returns-in-Ok-clause-any_moment
+returns-in-Ok-clause-any_moment g c h table given all =
+    subst (λ (d : g.row.D.Denot). EachImage (g.D.Disk.past d) (g.D.Disk.moment c.args.disk) (g.D.Disk.moment d) (Recovers c.args.url.now table given)) (sym c.begin.ensures.disk) (c.open.ensures.any_moment h table given all)

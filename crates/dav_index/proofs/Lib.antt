@@ -1,0 +1,12 @@
+pub mod FieldLemmas
+pub mod CutLemmas
+pub mod WrongLemmas
+pub mod PathTexts
+pub mod ReadingLemmas
+pub mod WriteLemmas
+pub mod Segments
+pub mod PlaceLemmas
+pub mod ItemLemmas
+pub mod EntryLemmas
+pub mod BoundLemmas
+pub mod LawLemmas
