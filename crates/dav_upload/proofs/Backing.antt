@@ -1,5 +1,5 @@
 -- The requests behind the settlings of a trace, step by step.
-use Rattle.std.proofs.Common.{◌≡◌, ℕ, List, [], ◌∷◌, ◌++◌, Option, Some, None, refl, sym, ◌∙◌, ap, subst, append_assoc, append-nil}
+use Rattle.std.proofs.Common.{◌≡◌, ℕ, List, [], ◌∷◌, ◌++◌, Option, Some, None, sym, ◌∙◌, ap, subst, append_assoc, append-nil}
 use Rattle.dav_edge.specs.Device.{Happened}
 use Rattle.dav_uri.specs.Target.{BaseParts}
 use Rattle.dav_text.specs.Path.{PathParts}

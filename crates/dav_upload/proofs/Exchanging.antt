@@ -19,7 +19,7 @@ use Rattle.dav_frame.specs.declared.phase.Phase.{Phase}
 use Rattle.dav_frame.specs.declared.reader.Reply.{Reply}
 use Rattle.dav_frame.specs.Framing.{Message, Outcome, Framing, Gives as GivesReply, Closes, Faults, Short}
 use Rattle.dav_uri.specs.Target.{BaseParts}
-use Rattle.dav_frame.specs.Reading.{FromPhase, Leads, Waits, is_alone, reply_of}
+use Rattle.dav_frame.specs.Reading.{FromPhase, Leads, Waits, reply_of}
 use Rattle.dav_upload.specs.Exchange.{Heard, Uploaded, IsHeardOf, IsToldOf, Tells, StaysOpen, is_end, Judged, whole, broken, short, memory, Ended, closed, cut, Hears, hears_if, Talks, Shuts, Exchanges, Uploads, put_text}
 use Rattle.dav_upload.specs.Exchange.{sends as sends_file, memory as no_memory}
 

@@ -3,10 +3,9 @@ use Rattle.std.proofs.Common.{◌≡◌, ℕ, List, [], ◌∷◌, ◌++◌, Opt
 use Rattle.dav_machine.specs.Devices.{one_device}
 use Rattle.dav_machine.specs.Machine.{Run, run_with, prepend}
 use Rattle.dav_edge.specs.Device.{Answer, Happened, DeviceLog}
-use Rattle.dav_edge.specs.Connections.{Connections, connection, with_standing, all_of, after_calls}
+use Rattle.dav_edge.specs.Connections.{connection, with_standing, all_of}
 use Rattle.dav_edge.specs.Whole.{DoesOn}
 use Rattle.dav_text.specs.Path.{PathParts}
-use Rattle.dav_text.specs.declared.memory.Memory.{Memory}
 use Rattle.dav_text.specs.declared.method.Method.TheVariants.{Put}
 use Rattle.dav_text.specs.declared.tag.Seen.{Seen}
 use Rattle.dav_text.specs.declared.tag.Seen.TheVariants.{Unknown, Absent, Untagged, Tagged}
@@ -24,7 +23,7 @@ use Rattle.dav_deeds.specs.declared.ask.Done.TheVariants.{Sent, Again, Refused}
 use Rattle.dav_deeds.specs.Legal.{IsDone}
 use Rattle.dav_upload.specs.declared.came.Came.{Came}
 use Rattle.dav_upload.specs.Exchange.{Heard, Uploaded, IsCameOf, IsToldOf, Exchanges, Uploads, sends, memory as no_memory, put_text}
-use Rattle.dav_upload.specs.Backs.{HasPut, job_text}
+use Rattle.dav_upload.specs.Backs.{HasPut}
 use Rattle.dav_upload.specs.Ending.{done_by, done_of, Ending, ending_of, Sends, flight_in, Puts}
 use Rattle.dav_upload.proofs.Putting.{Answered, exchange_replied}
 

@@ -6,7 +6,6 @@ use Rattle.dav_text.specs.declared.tag.Seen.{Seen}
 use Rattle.dav_uri.specs.Target.{BaseParts}
 use Rattle.dav_deeds.specs.declared.answer.Flight.{Flight}
 use Rattle.dav_deeds.specs.declared.answer.Job.{Job}
-use Rattle.dav_deeds.specs.declared.answer.Told.{Told}
 use Rattle.dav_deeds.specs.declared.answer.Told.TheVariants.{Took, Idle}
 use Rattle.dav_deeds.specs.declared.ask.Done.{Done}
 use Rattle.dav_deeds.specs.declared.ask.Done.TheVariants.{Sent, Again, Refused}
@@ -19,7 +18,7 @@ use Rattle.dav_deeds.specs.DeskTable.{DeskTable}
 use Rattle.dav_deeds.specs.Effects.{take_effect, taken, changed, after, told_of}
 use Rattle.dav_deeds.specs.Legal.{table_after}
 use Rattle.dav_upload.specs.Backs.{HasPut, HasPutOf, job_sent, Backs}
-use Rattle.dav_upload.specs.Ending.{Ending, Sends, flight_in, Puts}
+use Rattle.dav_upload.specs.Ending.{Sends, flight_in}
 use Rattle.dav_upload.specs.Turns.{Takes, Turns, none, turn, cut, Backed}
 use Rattle.dav_upload.proofs.Backing.{backs_both}
 use Rattle.dav_upload.proofs.SentJobs.{sends_put}

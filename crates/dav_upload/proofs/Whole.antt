@@ -1,5 +1,5 @@
 -- An image that recovers to a table holds the bytes that the table names.
-use Rattle.std.proofs.Common.{◌≡◌, ◌⊎◌, inl, inr, ℕ, zero, suc, Bool, true, false, List, [], ◌∷◌, ◌++◌, map, Option, Some, None, Contains, refl, sym, ◌∙◌, ap, subst, arith}
+use Rattle.std.proofs.Common.{◌≡◌, ◌⊎◌, inl, inr, ℕ, zero, suc, ◌≤◌, Bool, true, false, List, [], ◌∷◌, ◌++◌, map, Option, Some, None, Contains, refl, sym, ◌∙◌, ap, subst, arith}
 use Rattle.std.specs.Prelude.{option_and_then}
 use Rattle.std.specs.List.{filter_map, cons_option}
 use Rattle.std.proofs.lemmas.List.Elements.{Contains-append_left, Contains-append_right}
@@ -8,8 +8,8 @@ use Rattle.dav_text.specs.Path.{PathParts}
 use Rattle.dav_uri.specs.Target.{BaseParts}
 use Rattle.dav_store.specs.declared.body_id.BodyId.{BodyId}
 use Rattle.dav_index.specs.Item.{Item}
-use Rattle.dav_index.specs.Items.{has_path, entry_at}
-use Rattle.dav_index.specs.Tables.{waiting_body, queued_body, queued_at, restarted_waiting, restarted_item, restarted}
+use Rattle.dav_index.specs.Items.{has_path}
+use Rattle.dav_index.specs.Tables.{waiting_body, queued_body, queued_at, restarted_waiting, restarted_item}
 use Rattle.dav_index.specs.Bounds.{bodies_of}
 use Rattle.dav_index.specs.declared.entry.Waiting.{Waiting}
 use Rattle.dav_index.specs.declared.lost.LostItem.{LostItem}
@@ -17,12 +17,14 @@ use Rattle.dav_index.specs.declared.table.Table.{Table}
 use Rattle.dav_deeds.specs.declared.deed.Step.{Step}
 use Rattle.dav_deeds.specs.DeskTable.{DeskTable, reopened}
 use Rattle.dav_deeds.specs.Legal.{Legal, table_after}
-use Rattle.dav_deeds.specs.Fate.{Fate, Queued, Sent, Lost, story, IsLostAs, IsKeptAs, IsKept}
+use Rattle.dav_deeds.specs.Fate.{Fate, Queued, Sent, Lost, story, IsLostAs, IsKeptAs}
 use Rattle.dav_deeds.proofs.Restart.{head_found, none_found}
 use Rattle.dav_deeds.proofs.Fates.{kept, legal_front}
 use Rattle.dav_cache.specs.Stands.{IsIn}
 use Rattle.dav_cache.specs.Recovers.{Recovers}
-use Rattle.dav_cache.specs.Survives.{IsFront, HasUnder, Survives, with_under}
+use Rattle.dav_cache.specs.Survives.{IsFront, HasUnder, Survives, SurviveAll, with_under}
+use Rattle.dav_cache.proofs.LiveLemmas.{survives_sooner}
+use Rattle.dav_disk.specs.Disk.{Doubt, MightLeave}
 use Rattle.dav_upload.specs.Backs.{Backs}
 use Rattle.dav_upload.specs.Outlives.{HasKept, KeepsBytes, Outlives}
 use Rattle.dav_upload.proofs.Backing.{backs_front, was_sent}
@@ -160,3 +162,10 @@ outlives_stop base url bodies opening steps under events m image none legal back
         let whole = under_is under steps survives.done more.0 more.1 more.2 in
         outlives base url bodies opening steps under events m image survives.done none (inr more)
         (subst (Legal opening) whole legal) (subst (λ (l : List Step). Backs base bodies opening l events) whole backs) survives.recovers
+
+pub outlives_each : (base : BaseParts) (url : List ℕ) (bodies : ℕ → List ℕ) (opening : DeskTable) (steps : List Step) (under : Option Step) (past : ℕ → ℕ → Doubt) (start now : ℕ) (events : List Happened)
+    → opening.job ≡ None → Legal opening (with_under steps under) → Backs base bodies opening (with_under steps under) events → SurviveAll past start now url opening steps under bodies
+    → (m : ℕ) (image : ℕ → List ℕ) → start ≤ m → MightLeave past now m image → Outlives base url bodies opening steps under events m image
+outlives_each base url bodies opening steps under past start now events none legal backs survive m image begun left =
+    outlives_stop base url bodies opening steps under events m image none legal backs
+    (survives_sooner url opening bodies steps under m left.0 image left.1 (survive left.0 image (omega (arith, begun, left.1)) left.2 left.3))

@@ -3,7 +3,6 @@ use Rattle.std.specs.Prelude.{◌≡◌, ℕ, List, Option, Some, None, Result, 
 use Rattle.dav_edge.specs.Device.{Happened, DeviceLog, Grew}
 use Rattle.dav_edge.specs.Whole.{DoesOn}
 use Rattle.dav_text.specs.declared.memory.Memory.{Memory}
-use Rattle.dav_text.specs.declared.tag.Seen.{Seen}
 use Rattle.dav_uri.specs.Target.{BaseParts}
 use Rattle.dav_verbs.specs.Outcome.{outcome_of}
 use Rattle.dav_verbs.specs.declared.outcome.Outcome.{Outcome}

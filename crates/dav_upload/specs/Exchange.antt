@@ -1,5 +1,5 @@
 -- One request and its reply: connect, send the whole text, read one reply, shut.
-use Rattle.std.specs.Prelude.{◌≡◌, ◌≢◌, ◌⊎◌, ℕ, List, [], ◌∷◌, ◌++◌, codes, Bool, true, false, Option, Some, None, Result, Ok, Err}
+use Rattle.std.specs.Prelude.{◌≡◌, ◌≢◌, ◌⊎◌, ℕ, List, [], ◌∷◌, ◌++◌, Bool, true, false, Option, Some, None, Result, Ok, Err}
 use Rattle.dav_machine.specs.Devices.{one_device}
 use Rattle.dav_machine.specs.Machine.{Run, give, Calls, and_then}
 use Rattle.dav_edge.specs.Device.{Connect, Receive, Answer, Fails, Goes, Gives, Happened, happened, shut_down, ByteMachine}

@@ -13,5 +13,6 @@ pub use came::Came;
 pub use ending::send_job;
 pub use exchange::upload;
 pub use laws::{
-    backs_join, last_bytes_are_kept_whole, last_bytes_outlive_a_stop, turns_are_backed,
+    backs_join, last_bytes_are_kept_whole, last_bytes_outlive_a_stop, last_bytes_outlive_each_stop,
+    turns_are_backed,
 };
