@@ -1,5 +1,5 @@
 -- Carrying out lines, byte by byte and piece by piece.
-use Rattle.std.proofs.Common.{◌≡◌, ◌≢◌, ◌<◌, ◌≤◌, ◌+◌, ℕ, suc, List, [], ◌∷◌, ◌++◌, length, take, drop, get_or, Bool, true, false, MatchBool, if◌then◌else◌, eqb, Ok, Err, refl, sym, ◌∙◌, ap, subst, arith, codes, append_assoc, append-nil, length-append}
+use Rattle.std.proofs.Common.{◌≡◌, ◌≢◌, ◌<◌, ◌≤◌, ◌+◌, ℕ, List, [], ◌∷◌, ◌++◌, length, take, drop, get_or, Bool, true, false, MatchBool, if◌then◌else◌, eqb, Ok, Err, refl, sym, ◌∙◌, ap, subst, arith, append_assoc, append-nil}
 use Rattle.std.proofs.lemmas.Bool.{cond-false, ne_eqb}
 use Rattle.std.proofs.lemmas.List.{take-append-drop, take_all, take_more}
 use Rattle.dav_machine.specs.Devices.{one_device}
@@ -14,7 +14,7 @@ use Rattle.dav_edge.proofs.Sending.{on_same, on_then}
 use Rattle.davsh.specs.declared.pending.Pending.{Pending}
 use Rattle.davsh.specs.declared.stop.Stop.{Stop}
 use Rattle.davsh.specs.declared.stop.Stop.TheVariants.{End, Input, Output}
-use Rattle.davsh.specs.Line.{without_return, lines_from, IsPut}
+use Rattle.davsh.specs.Line.{without_return, lines_from}
 use Rattle.davsh.specs.Pending.{Holds}
 use Rattle.davsh.specs.Shell.{State, Answered, Carries, AtEnd, Shell, counted, faulted, syntax_line, goes_on}
 use Rattle.davsh.specs.Carrying.{line_at, CarriesOn, ReadsPiece, HeardEnd, IsHeard, ReadsAll, EndsOn}

@@ -8,8 +8,6 @@ use Rattle.dav_edge.specs.Device.{Answer, Happened}
 use Rattle.dav_edge.specs.Connections.{Connection, connection, Connections, none_yet, all_of, after_calls}
 use Rattle.dav_edge.proofs.Connecting.{after_calls-append, begins_and_last, ended_after_calls}
 use Rattle.dav_text.specs.Path.{PathParts}
-use Rattle.dav_text.specs.declared.memory.Memory.{Memory}
-use Rattle.dav_text.specs.declared.tag.Seen.{Seen}
 use Rattle.dav_text.specs.declared.tag.Seen.TheVariants.{Absent}
 use Rattle.dav_frame.specs.Framing.{Message}
 use Rattle.dav_frame.specs.declared.reader.Reply.{Reply}
@@ -28,7 +26,7 @@ use Rattle.dav_uri.specs.Target.{BaseParts}
 use Rattle.dav_desk.proofs.Laws.{take_is_within, take_keeps_queued, take_loses_nothing, take_puts_in_flight, settle_is_within, settle_keeps_lost, sent_keeps_others, again_ends_flight_alone, refused_keeps_all}
 use Rattle.dav_verbs.specs.Outcome.{is_success, may_pass}
 use Rattle.dav_upload.specs.declared.came.Came.{Came}
-use Rattle.dav_upload.specs.Exchange.{Heard, Uploaded, IsCameOf, IsToldOf, Tells, HasReply, Exchanges, Uploads, sends, memory as no_memory, put_text, new_text}
+use Rattle.dav_upload.specs.Exchange.{Heard, Uploaded, IsToldOf, HasReply, Exchanges, Uploads, sends, memory as no_memory, new_text}
 use Rattle.davsh.specs.Drain.{Drains, Turn, Starved, idle, memory, starved, turn, done_by, done_of}
 use Rattle.davsh.specs.Kept.{WasPut}
 use Rattle.dav_upload.proofs.Putting.{Answered, exchange_replied}

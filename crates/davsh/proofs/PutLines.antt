@@ -1,5 +1,5 @@
 -- A line that stores something is read in one way.
-use Rattle.std.proofs.Common.{◌≡◌, ◌≢◌, ◌<◌, ◌≤◌, ◌+◌, ℕ, zero, suc, List, [], ◌∷◌, ◌++◌, length, take, drop, get_or, Ok, true, false, refl, sym, ◌∙◌, ap, subst, arith, codes, add-one}
+use Rattle.std.proofs.Common.{◌≡◌, ◌≢◌, ◌<◌, ◌≤◌, ◌+◌, ℕ, zero, suc, List, [], ◌∷◌, ◌++◌, length, take, drop, get_or, Ok, refl, sym, ◌∙◌, ap, subst, arith, codes, add-one}
 use Rattle.std.specs.Str.{IsUtf8}
 use Rattle.dav_text.specs.Path.{PathParts}
 use Rattle.dav_text.specs.Reading.{typed_of}

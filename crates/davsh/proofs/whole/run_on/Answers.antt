@@ -2,10 +2,8 @@ use Rattle.davsh.specs.Said.{state_of}
 use Rattle.davsh.specs.declared.stop.Stop.TheVariants.{End, Input, Output}
 use Rattle.davsh.proofs.Keeping.{finish_not_words, finish_not_input}
 use Rattle.davsh.proofs.Ending.{ran_on, ends_output, ends_input, heard_all}
-use Rattle.std.proofs.Common.{◌∙◌, ap, subst, sym}
-use Rattle.davsh.specs.declared.ended.Status.TheVariants as status
-use Rattle.davsh.specs.Shell.{State}
-use Rattle.davsh.specs.Run.{Ending, ending, EndHeard}
+use Rattle.std.proofs.Common.{subst, sym}
+use Rattle.davsh.specs.Run.{Ending, EndHeard}
 use Rattle.davsh.proofs.whole.run_on.Goals as goal
 
 pub returns-in-Output : goal.returns-in-Output
