@@ -2,3 +2,4 @@ pub mod Standing
 pub mod StartLemmas
 pub mod DueLemmas
 pub mod LiveLemmas
+pub mod PlanLemmas

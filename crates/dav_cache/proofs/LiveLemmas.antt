@@ -250,10 +250,10 @@ live_begin_at {D} moment seen past url table start bodies desk disk end disk_is 
     (subst (λ (d : D). EachImage (past d) start (moment d) (Recovers url table bodies)) (sym disk_is) images) none idle
 
 legal_steps : (opening : DeskTable) (steps : List Step) (under : Option Step) → Legal opening (with_under steps under) → Legal opening steps
-legal_steps opening steps None legal = legal
-legal_steps opening steps (Some s) legal = legal_front opening steps (s ∷ []) legal
+legal_steps opening all None legal = legal
+legal_steps opening all (Some s) legal = legal_front opening all (s ∷ []) legal
 
 -- the steps that survive are legal
 pub legal_done : (opening : DeskTable) (m : ℕ) (steps done : List Step) (under : Option Step) → Legal opening (with_under steps under) → IsFront m steps done ⊎ HasUnder under steps done → Legal opening done
-legal_done opening m steps done under legal (inl front) = legal_front opening done front.rest (subst (λ (l : List Step). Legal opening l) front.split (legal_steps opening steps under legal))
-legal_done opening m steps done under legal (inr over) = subst (λ (l : List Step). Legal opening l) (sym over.2) (subst (λ (u : Option Step). Legal opening (with_under steps u)) over.1 legal)
+legal_done opening m all done under legal (inl front) = legal_front opening done front.rest (subst (λ (l : List Step). Legal opening l) front.split (legal_steps opening all under legal))
+legal_done opening m all done under legal (inr over) = subst (λ (l : List Step). Legal opening l) (sym over.2) (subst (λ (u : Option Step). Legal opening (with_under all u)) over.1 legal)

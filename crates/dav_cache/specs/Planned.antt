@@ -1,5 +1,7 @@
 -- What a step puts on the disk, by its table.
 use Rattle.std.specs.Prelude.{◌≡◌, ℕ, List, Option, Some, None}
+use Rattle.dav_store.specs.Body.{id_of}
+use Rattle.dav_store.specs.declared.body_id.BodyId.{BodyId}
 use Rattle.dav_index.specs.Bounds.{bodies_of}
 use Rattle.dav_index.specs.Tables.{replay}
 use Rattle.dav_index.specs.declared.record.Record.{Record}
@@ -24,3 +26,8 @@ pub record IsPlanned (t : DeskTable) (s : Step) (bodies : ℕ → List ℕ) (fre
 pub record IsQuiet (t : DeskTable) (s : Step) (freed : List ℕ) : Type 0 where
   pub record_is : record_of t s.now s.deed ≡ None
   pub spared : Spares freed (bodies_of (kept_table t))
+
+-- the file of the new body, if there is one, and these are its bytes, which are given for that file
+abbrev pub HasNew : Option BodyId → (ℕ → List ℕ) → Option ℕ → List ℕ → Type 0
+HasNew None bodies fresh bytes = fresh ≡ None
+HasNew (Some id) bodies fresh bytes = (fresh ≡ Some id.file) × (id ≡ id_of id.file bytes) × (bodies id.file ≡ bytes)

@@ -10,5 +10,5 @@ mod recorder;
 #[cfg(test)]
 mod tests;
 
-pub use laws::{last_bytes_survive, survives_from};
+pub use laws::{last_bytes_survive, steps_are_planned, survives_from};
 pub use recorder::Recorder;
