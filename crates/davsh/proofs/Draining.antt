@@ -20,8 +20,8 @@ use Rattle.dav_desk.specs.declared.fault.DeskFault.{DeskFault}
 use Rattle.dav_desk.specs.declared.fault.DeskFault.TheVariants as faults
 use Rattle.dav_uri.specs.Target.{BaseParts}
 use Rattle.dav_desk.proofs.Laws.{refused_changes_nothing, take_answers, take_leaves_fewer, take_puts_in_flight, idle_changes_nothing, settle_answers, settle_is_not_refused, settle_leaves_no_more}
-use Rattle.davsh.specs.Exchange.{Uploaded, Uploads}
-use Rattle.davsh.specs.declared.came.Came.{Came}
+use Rattle.dav_upload.specs.Exchange.{Uploaded, Uploads}
+use Rattle.dav_upload.specs.declared.came.Came.{Came}
 use Rattle.davsh.specs.Drain.{Drains, IsFlying, idle, memory, starved, turn, done_of}
 
 abbrev pub DrainMachine : Type 1

@@ -25,11 +25,11 @@ use Rattle.dav_verbs.specs.declared.outcome.Outcome.TheVariants as outcomes
 use Rattle.dav_uri.specs.Target.{BaseParts}
 use Rattle.dav_desk.proofs.Laws.{take_is_within, take_keeps_queued, take_loses_nothing, take_puts_in_flight, settle_is_within, settle_keeps_lost, sent_keeps_others, again_ends_flight_alone, refused_keeps_all}
 use Rattle.dav_verbs.specs.Outcome.{is_success, may_pass}
-use Rattle.davsh.specs.declared.came.Came.{Came}
-use Rattle.davsh.specs.Exchange.{Heard, Uploaded, IsToldOf, HasReply, Exchanges, Uploads, sends, memory as no_memory, new_text}
+use Rattle.dav_upload.specs.declared.came.Came.{Came}
+use Rattle.dav_upload.specs.Exchange.{Heard, Uploaded, IsToldOf, HasReply, Exchanges, Uploads, sends, memory as no_memory, new_text}
 use Rattle.davsh.specs.Drain.{Drains, Turn, Starved, idle, memory, starved, turn, done_by, done_of}
 use Rattle.davsh.specs.Kept.{WasPut}
-use Rattle.davsh.proofs.Putting.{Answered, exchange_replied}
+use Rattle.dav_upload.proofs.Putting.{Answered, exchange_replied}
 
 abbrev HeardRun : Type 0
 HeardRun = Run (List Happened) (List Answer) Heard

@@ -3,12 +3,10 @@ pub mod CarryingOut
 pub mod Draining
 pub mod Emptying
 pub mod Ending
-pub mod Exchanging
 pub mod Keeping
 pub mod OneRun
 pub mod TheRun
 pub mod PutLines
-pub mod Putting
 pub mod Storing
 pub mod Telling
 pub mod Walking

@@ -32,8 +32,8 @@ use Rattle.davsh.specs.declared.ended.Status.TheVariants as status
 use Rattle.davsh.specs.Line.{without_return, IsPut, IsNoPut}
 use Rattle.davsh.specs.Shell.{State, state, fresh_state, counted, faulted, starved, closed_line, syntax_line, limit_line, Answered, nothing, syntax, closed, limit, memory, Carries, goes_on, AtEnd, Shell}
 use Rattle.dav_verbs.proofs.SeenLemmas.{same_seen}
-use Rattle.davsh.specs.declared.came.Came.{Came}
-use Rattle.davsh.specs.Exchange.{Heard, Uploaded, IsCameOf, IsToldOf, Tells, put_text, is_end, StaysOpen, Judged, whole, broken, short, memory as no_memory, Ended, closed, cut, Hears, hears_if, Talks, Shuts, Exchanges, Uploads, sends, memory as not_sent}
+use Rattle.dav_upload.specs.declared.came.Came.{Came}
+use Rattle.dav_upload.specs.Exchange.{Heard, Uploaded, IsCameOf, IsToldOf, Tells, put_text, is_end, StaysOpen, Judged, whole, broken, short, memory as no_memory, Ended, closed, cut, Hears, hears_if, Talks, Shuts, Exchanges, Uploads, sends, memory as not_sent}
 use Rattle.davsh.specs.Drain.{Drains, Turn, idle, memory as drain_memory, starved as drain_starved, turn, done_of}
 use Rattle.davsh.specs.Run.{Answers, both, the_sink, the_wire, Ending, ending, with_table, without_memory, RunMachine, Says, words_end, input_end, memory_end, Starves, closing_status, left_text, Closes, tells, memory as left_memory, after_drain, after_shell, RunsOn, Runs, refused, unread, on}
 use Rattle.davsh.specs.Kept.{Told, Walks}

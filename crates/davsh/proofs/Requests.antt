@@ -20,10 +20,10 @@ use Rattle.dav_desk.specs.declared.answer.Job.{Job}
 use Rattle.dav_desk.specs.declared.ask.Ask.TheVariants.{Take}
 use Rattle.dav_uri.specs.Target.{BaseParts}
 use Rattle.dav_desk.proofs.Laws.{take_is_within, take_keeps_files, take_gives_queued, take_marks_path, take_keeps_taken, take_gives_other, settle_is_within, settle_queues_nothing, settle_keeps_taken}
-use Rattle.davsh.specs.Exchange.{Heard, Uploaded, is_end, Judged, whole, broken, short, memory, Ended, closed, cut, Hears, hears_if, Talks, Shuts, Exchanges, Uploads, sends, memory as no_memory, put_text, new_text}
+use Rattle.dav_upload.specs.Exchange.{Heard, Uploaded, is_end, Judged, whole, broken, short, memory, Ended, closed, cut, Hears, hears_if, Talks, Shuts, Exchanges, Uploads, sends, memory as no_memory, put_text, new_text}
 use Rattle.davsh.specs.Drain.{Drains, Turn, idle, memory as drain_memory, starved, turn, done_of}
 use Rattle.davsh.specs.Kept.{IsBegun, Pairwise}
-use Rattle.davsh.proofs.Putting.{shuts_down}
+use Rattle.dav_upload.proofs.Putting.{shuts_down}
 
 abbrev HeardRun : Type 0
 HeardRun = Run (List Happened) (List Answer) Heard

@@ -17,8 +17,8 @@ use Rattle.dav_desk.specs.declared.ask.Done.TheVariants as done
 use Rattle.dav_verbs.specs.Outcome.{outcome_of}
 use Rattle.dav_verbs.specs.declared.outcome.Outcome.{Outcome}
 use Rattle.dav_verbs.specs.declared.outcome.Outcome.TheVariants as outcomes
-use Rattle.davsh.specs.Exchange.{Uploaded, Uploads}
-use Rattle.davsh.specs.declared.came.Came.{Came}
+use Rattle.dav_upload.specs.Exchange.{Uploaded, Uploads}
+use Rattle.dav_upload.specs.declared.came.Came.{Came}
 
 -- how a job ends, by what its reply says of the file
 abbrev pub done_by : Outcome → Done

@@ -15,7 +15,7 @@ use Rattle.davsh.specs.Words.{IsBase}
 use Rattle.davsh.specs.Line.{lines_of, IsPut}
 use Rattle.davsh.specs.Shell.{State, fresh_state, counted, closed_line, Answered}
 use Rattle.dav_verbs.specs.Outcome.{is_success}
-use Rattle.davsh.specs.Exchange.{new_text, HasReply}
+use Rattle.dav_upload.specs.Exchange.{new_text, HasReply}
 use Rattle.davsh.specs.Run.{Made, BothGrew, Ending, words_end, input_end, memory_end, left_text, EndHeard}
 
 -- a line that was carried out, at which current path, and what was printed of it

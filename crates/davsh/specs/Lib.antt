@@ -1,6 +1,5 @@
 pub mod Carrying
 pub mod Drain
-pub mod Exchange
 pub mod Function
 pub mod Kept
 pub mod Line

@@ -5,11 +5,10 @@ ghost use Rattle.dav_desk.specs.declared.answer.Answer.{Answer as DeskAnswer};
 ghost use Rattle.dav_desk.specs.declared.ask.Ask.TheVariants.{Settle};
 ghost use Rattle.davsh.specs.Drain.{Drains, IsFlying, done_of, done_by};
 
-use crate::came::Came;
-use crate::exchange::upload;
 use dav_desk::{Answer, Ask, Desk, Done};
 use dav_edge::Wire;
 use dav_text::Seen;
+use dav_upload::{Came, upload};
 use dav_uri::Base;
 use dav_verbs::{Outcome, outcome_of};
 use std::alloc::Global;
@@ -26,7 +25,8 @@ pub fn drain<V: Wire>(alloc: Global, base: &Base, wire: &mut V, desk: &mut Desk)
             return true;
         };
         let number = job.number;
-        let Ok(came) = upload(alloc, base, wire, job, &Seen::Absent) else {
+        let bytes = job.bytes;
+        let Ok(came) = upload(alloc, base, wire, &job.path, bytes, &Seen::Absent) else {
             return false;
         };
         settle(desk, number, done_of(came));

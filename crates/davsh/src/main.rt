@@ -1,10 +1,8 @@
 //! davsh: a shell for files on a WebDAV server.
 #![tactic(auto)]
 
-mod came;
 mod drain;
 mod ended;
-mod exchange;
 mod input;
 mod line;
 #[cfg(test)]

@@ -1,10 +1,6 @@
 use crate::ended::{Ended, Status};
-use crate::exchange::upload;
 use crate::whole::run;
-use dav_desk::Job;
 use dav_edge::{MemConnection, MemSink, MemSource, MemWire, Stream};
-use dav_text::{Blob, Path, Seen, Tag};
-use dav_uri::Base;
 use std::alloc::{AllocError, Global};
 use std::test::Fail;
 
@@ -384,97 +380,6 @@ fn requests_go_to_the_base(rt: HostRuntime) -> Result<(), Fail> {
                 .as_slice()
                 .starts_with(b"PUT /b HTTP/1.1\r\n")
         );
-    }
-    Ok(())
-}
-
-/// What a word says is known of a file; another word is a tag.
-fn known(word: &str) -> Seen {
-    match word {
-        "unknown" => Seen::Unknown,
-        "absent" => Seen::Absent,
-        _ => match Tag::read(word.as_bytes()) {
-            Some(tag) => Seen::Tagged(tag),
-            None => Seen::Untagged,
-        },
-    }
-}
-
-#[test]
-fn what_is_known_goes_with_the_file(rt: HostRuntime) -> Result<(), Fail> {
-    let alloc = rt.alloc();
-    let cases = [
-        (
-            "\"1\"",
-            "If-Match: \"1\"\r\n",
-            "204 No Content\r\nETag: \"2\"",
-            "\"2\"",
-            204,
-            0,
-        ),
-        (
-            "untagged",
-            "If-Match: *\r\n",
-            "200 OK\r\nRetry-After: 5",
-            "untagged",
-            200,
-            5,
-        ),
-        (
-            "absent",
-            "If-None-Match: *\r\n",
-            "201 Created\r\nETag: W/\"2\"",
-            "untagged",
-            201,
-            0,
-        ),
-        (
-            "unknown",
-            "",
-            "207 Multi-Status\r\nETag: \"2\"\r\nETag: \"2\"",
-            "untagged",
-            207,
-            0,
-        ),
-        (
-            "\"1\"",
-            "If-Match: \"1\"\r\n",
-            "412 Precondition Failed\r\nETag: \"2\"",
-            "\"1\"",
-            412,
-            0,
-        ),
-        (
-            "absent",
-            "If-None-Match: *\r\n",
-            "503 Busy\r\nRetry-After: 120",
-            "absent",
-            503,
-            120,
-        ),
-    ];
-    for (word, field, reply, after, status, waits) in cases {
-        let base = Base::read(alloc, "http://h/")?;
-        let job = Job {
-            number: 1,
-            path: Path::read(alloc, "/a")?,
-            file: 1,
-            bytes: Blob::copy_of(alloc, b"x")?,
-        };
-        let text = format!(in alloc; "HTTP/1.1 {reply}\r\nContent-Length: 0\r\n\r\n")?;
-        let bytes = Vec::from_slice(alloc, text.as_bytes())?;
-        let streams = vec![in alloc; Stream::new(bytes, Vec::new(alloc))]?;
-        let mut wire = MemWire::new(alloc, streams, 1024, Vec::new(alloc));
-        let came = upload(alloc, &base, &mut wire, job, &known(word))?.ok_or("no reply")?;
-        assert_eq!(rt; came.status, status);
-        assert_eq!(rt; came.retry_after, waits);
-        assert!(rt; came.seen.same(&known(after)), "after {reply}");
-        let want = format!(in alloc;
-            "PUT /a HTTP/1.1\r\nHost: h\r\nUser-Agent: davsh/1\r\nAccept-Encoding: identity\r\n{field}Content-Length: 1\r\n\r\nx"
-        )?;
-        let made = wire.connections()?.ok_or("no record")?;
-        assert_eq!(rt; made.len(), 1);
-        assert!(rt; made[0].sent.as_slice() == want.as_bytes(), "of {word}");
     }
     Ok(())
 }

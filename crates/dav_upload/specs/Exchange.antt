@@ -21,7 +21,7 @@ use Rattle.dav_frame.specs.Request.{request_text}
 use Rattle.dav_verbs.specs.Precondition.{precondition_of, fields_of}
 use Rattle.dav_verbs.specs.Retry.{retry_after_of}
 use Rattle.dav_verbs.specs.Seen.{IsSeenAfter}
-use Rattle.davsh.specs.declared.came.Came.{Came}
+use Rattle.dav_upload.specs.declared.came.Came.{Came}
 
 -- the fields of a request that is to go through only where its file is what is known of it
 abbrev pub precondition_fields : Seen → List (FieldName × List ℕ)

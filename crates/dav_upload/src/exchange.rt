@@ -1,30 +1,30 @@
 ghost use Rattle.std.specs.Prelude.{◌≡◌, ◌⊎◌, [], IfOk, false, ℕ, List, Some, None, Ok};
 ghost use Rattle.dav_edge.specs.Whole.{DoesOn};
-ghost use Rattle.davsh.specs.Exchange.{put_request, put_text, precondition_fields, IsHeardOf, IsCameOf, IsToldOf, Hears, Talks, Exchanges, Uploads};
+ghost use Rattle.dav_upload.specs.Exchange.{put_request, put_text, precondition_fields, IsHeardOf, IsCameOf, IsToldOf, Hears, Talks, Exchanges, Uploads};
 ghost use Rattle.dav_frame.specs.Framing.{Message, Gives, Closes, Short};
 ghost use Rattle.dav_frame.specs.Reading.{FromPhase, IsWhole, IsReading, is_alone, reply_of};
 
 use crate::came::Came;
-use dav_desk::Job;
 use dav_edge::{Wire, send_whole};
 use dav_frame::{Fields, FrameFault, Reply, ReplyReader, Req, write_request};
-use dav_text::{Memory, Method, Seen};
+use dav_text::{Blob, Memory, Method, Path, Seen};
 use dav_uri::Base;
 use dav_verbs::{precondition, retry_after, seen_after};
 use std::alloc::Global;
 
-/// Sends the job's file, of which `seen` is known on the server, and tells what came of it. None is no whole
-/// reply.
+/// Stores the bytes under the path, of which `seen` is known on the server: one connection, one request and its
+/// reply. Tells what came of it; None is no whole reply.
 pub fn upload<V: Wire>(
     alloc: Global,
     base: &Base,
     wire: &mut V,
-    job: Job,
+    path: &Path,
+    bytes: Blob,
     seen: &Seen,
 ) -> Result<Option<Came>, Memory>
-    ensures { DoesOn (V.log wire.old) (V.log wire.new) (Uploads base.now job.path seen.now job.bytes) result }
+    ensures { DoesOn (V.log wire.old) (V.log wire.new) (Uploads base.now path.now seen.now bytes) result }
 {
-    let Ok(text) = write_put(alloc, base, job, seen) else {
+    let Ok(text) = write_put(alloc, base, path, bytes, seen) else {
         return Err(Memory);
     };
     let heard = exchange(alloc, base, wire, text.as_slice());
@@ -53,26 +53,38 @@ fn came_of(seen: &Seen, reply: &Reply) -> Came
     }
 }
 
-/// The text of the request that stores the job's file.
-fn write_put(alloc: Global, base: &Base, job: Job, seen: &Seen) -> Result<Vec<u8>, Memory>
-    ensures { IfOk result (λ text. text.items ≡ put_text base.now job.path seen.now job.bytes) }
+/// The text of the request that stores the bytes under the path.
+fn write_put(
+    alloc: Global,
+    base: &Base,
+    path: &Path,
+    bytes: Blob,
+    seen: &Seen,
+) -> Result<Vec<u8>, Memory>
+    ensures { IfOk result (λ text. text.items ≡ put_text base.now path.now seen.now bytes) }
 {
-    let req = put_request(alloc, base, job, seen)?;
+    let req = put_request(alloc, base, path, bytes, seen)?;
     let mut text = Vec::new(alloc);
     write_request(&req, &mut text)?;
     Ok(text)
 }
 
-/// The request that stores the job's file, only if what is there is what is known of it: RFC 9110 section 13.1.
-fn put_request(alloc: Global, base: &Base, job: Job, seen: &Seen) -> Result<Req, Memory>
-    ensures { IfOk result (λ req. req ≡ put_request base.now job.path seen.now job.bytes) }
+/// The request that stores the bytes, only if what is there is what is known of it: RFC 9110 section 13.1.
+fn put_request(
+    alloc: Global,
+    base: &Base,
+    path: &Path,
+    bytes: Blob,
+    seen: &Seen,
+) -> Result<Req, Memory>
+    ensures { IfOk result (λ req. req ≡ put_request base.now path.now seen.now bytes) }
 {
     Ok(Req {
         method: Method::Put,
         host: base.host_field(alloc)?,
-        target: job.path.escaped(alloc)?,
+        target: path.escaped(alloc)?,
         fields: precondition_fields(alloc, seen)?,
-        body: job.bytes,
+        body: bytes,
     })
 }
 

@@ -1,5 +1,5 @@
-use Rattle.davsh.proofs.Exchanging.{talks_sent, talks_failed}
-use Rattle.davsh.proofs.exchange.talk.Goals as goal
+use Rattle.dav_upload.proofs.Exchanging.{talks_sent, talks_failed}
+use Rattle.dav_upload.proofs.exchange.talk.Goals as goal
 
 pub returns-in_default : goal.returns-in_default
 returns-in_default g c = talks_failed _ _ c.args.text.now c.in_default.ensures

@@ -20,8 +20,8 @@ use Rattle.dav_frame.specs.declared.reader.Reply.{Reply}
 use Rattle.dav_frame.specs.Framing.{Message, Outcome, Framing, Gives as GivesReply, Closes, Faults, Short}
 use Rattle.dav_uri.specs.Target.{BaseParts}
 use Rattle.dav_frame.specs.Reading.{FromPhase, Leads, Waits, reply_of}
-use Rattle.davsh.specs.Exchange.{Heard, Uploaded, IsHeardOf, IsToldOf, Tells, StaysOpen, is_end, Judged, whole, broken, short, memory, Ended, closed, cut, Hears, hears_if, Talks, Shuts, Exchanges, Uploads, put_text}
-use Rattle.davsh.specs.Exchange.{sends as sends_file, memory as no_memory}
+use Rattle.dav_upload.specs.Exchange.{Heard, Uploaded, IsHeardOf, IsToldOf, Tells, StaysOpen, is_end, Judged, whole, broken, short, memory, Ended, closed, cut, Hears, hears_if, Talks, Shuts, Exchanges, Uploads, put_text}
+use Rattle.dav_upload.specs.Exchange.{sends as sends_file, memory as no_memory}
 
 -- a reader that began with so much of a stream
 abbrev pub ReadsFrom : List ℕ → Phase → Type 0

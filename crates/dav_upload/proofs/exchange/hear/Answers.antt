@@ -4,9 +4,9 @@ use Rattle.dav_machine.specs.Machine.{give}
 use Rattle.dav_edge.proofs.Sending.{on_same, on_then}
 use Rattle.dav_frame.specs.declared.reader.Reply.{Reply}
 use Rattle.dav_frame.specs.Reading.{is_alone}
-use Rattle.davsh.specs.Exchange.{Heard, Hears}
-use Rattle.davsh.proofs.Exchanging.{reads_on, reads_short, reads_whole, reply_in, hears_short, hears_whole, hears_fault, hears_end, hears_failed}
-use Rattle.davsh.proofs.exchange.hear.Goals as goal
+use Rattle.dav_upload.specs.Exchange.{Heard, Hears}
+use Rattle.dav_upload.proofs.Exchanging.{reads_on, reads_short, reads_whole, reply_in, hears_short, hears_whole, hears_fault, hears_end, hears_failed}
+use Rattle.dav_upload.proofs.exchange.hear.Goals as goal
 
 pub loop-count-init : goal.loop-count-init
 loop-count-init g c = ([], on_same _ (Hears []), c.new-reader.ensures.starts, c.new-reader.ensures.reading)

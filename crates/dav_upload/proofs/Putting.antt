@@ -14,7 +14,7 @@ use Rattle.dav_uri.specs.Target.{BaseParts}
 use Rattle.dav_frame.specs.Framing.{Message, Framing, Gives as GivesReply, Closes}
 use Rattle.dav_frame.specs.Reading.{reply_of}
 use Rattle.dav_frame.specs.declared.reader.Reply.{Reply}
-use Rattle.davsh.specs.Exchange.{Heard, HasReply, is_whole, is_closed, is_end, Judged, whole, broken, short, memory, Ended, closed, cut, Hears, hears_if, Talks, Shuts, Exchanges}
+use Rattle.dav_upload.specs.Exchange.{Heard, HasReply, is_whole, is_closed, is_end, Judged, whole, broken, short, memory, Ended, closed, cut, Hears, hears_if, Talks, Shuts, Exchanges}
 
 abbrev HeardRun : Type 0
 HeardRun = Run (List Happened) (List Answer) Heard

@@ -3,8 +3,8 @@ use Rattle.dav_text.specs.declared.method.Method.TheVariants.{Put}
 use Rattle.dav_frame.specs.Framing.{Outcome, Framing}
 use Rattle.dav_frame.specs.Reading.{FromPhase, IsReading}
 use Rattle.dav_edge.specs.Whole.{ReachesOn}
-use Rattle.davsh.specs.Exchange.{Hears}
-use Rattle.davsh.proofs.exchange.hear.Given as goal
+use Rattle.dav_upload.specs.Exchange.{Hears}
+use Rattle.dav_upload.proofs.exchange.hear.Given as goal
 
 abbrev pub invariant-loop-count : goal.invariant-loop-count
 invariant-loop-count g l =

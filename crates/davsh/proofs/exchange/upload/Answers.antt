@@ -1,9 +1,0 @@
-use Rattle.std.proofs.Common.{◌∙◌}
-use Rattle.davsh.proofs.Exchanging.{uploads_sent, uploads_starved}
-use Rattle.davsh.proofs.exchange.upload.Goals as goal
-
-pub returns-in_default : goal.returns-in_default
-returns-in_default g c = uploads_starved _ c.args.base.now c.args.job.path c.args.seen.now c.args.job.bytes _
-
-pub returns : goal.returns
-returns g c = uploads_sent _ _ c.args.base.now _ c.args.job.path c.args.seen.now c.args.job.bytes c.exchange-heard.result c.told_of.result (c.as_slice.ensures.value ∙ c.in-Ok.ensures) c.exchange-heard.ensures c.told_of.ensures
