@@ -7,6 +7,7 @@ mod ask;
 mod deed;
 mod fault;
 mod laws;
+mod pause;
 
 pub use answer::{Answer, Fated, Flight, Job, Told};
 pub use ask::{Ask, Done, Who};
