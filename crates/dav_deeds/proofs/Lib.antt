@@ -15,3 +15,4 @@ pub mod Sounds
 pub mod Naming
 pub mod Released
 pub mod Resting
+pub mod Slashes

@@ -4,6 +4,7 @@
 
 mod answer;
 mod ask;
+mod bare;
 mod deed;
 mod fault;
 mod laws;
