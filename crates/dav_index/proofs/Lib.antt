@@ -4,3 +4,7 @@ pub mod WrongLemmas
 pub mod PathTexts
 pub mod ReadingLemmas
 pub mod WriteLemmas
+pub mod Segments
+pub mod PlaceLemmas
+pub mod ItemLemmas
+pub mod EntryLemmas

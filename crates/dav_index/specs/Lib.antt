@@ -11,3 +11,5 @@ pub mod Queries
 pub mod Left
 pub mod Reading
 pub mod Flawed
+pub mod Places
+pub mod Ready

@@ -1,3 +1,12 @@
+ghost use Rattle.std.specs.Prelude.{◌≡◌, ◌++◌, ◌∷◌, [], length};
+ghost use Rattle.std.specs.Option.{option_copied};
+ghost use Rattle.dav_index.specs.Bounds.{lost_at};
+ghost use Rattle.dav_index.specs.Ready.{IsLoss};
+ghost use Rattle.dav_index.specs.Records.{IsBare};
+ghost use Rattle.dav_index.specs.Tables.{without_number};
+
+use crate::fresh::Loss;
+use crate::room::make_room;
 use dav_store::BodyId;
 use dav_text::Path;
 use std::alloc::Global;
@@ -18,7 +27,7 @@ pub struct LostItem {
 #[derive(Debug, Drop)]
 pub struct LostList {
     pub(crate) alloc: Global,
-    pub(crate) items: Vec<LostItem>,
+    items: Vec<LostItem>,
 }
 
 impl Model for LostList {
@@ -32,4 +41,50 @@ impl Model for LostList {
     ghost view = { lost_of };
 
     ghost invariant = { IsSound };
+}
+
+impl LostList {
+    /// No lost bytes.
+    pub fn new(alloc: Global) -> LostList
+        ensures { result ≡ [] }
+    {
+        LostList {
+            alloc,
+            items: Vec::new(alloc),
+        }
+    }
+
+    /// The lost bytes, in the order of their records.
+    pub fn as_slice(&self) -> &[LostItem]
+        ensures { result.now ≡ self.now }
+    {
+        self.items.as_slice()
+    }
+
+    /// The lost bytes of this number.
+    pub fn get(&self, number: u32) -> Option<&LostItem>
+        ensures { option_copied result ≡ lost_at number self.now }
+    {
+        self.items.iter().find(|item| item.number == number)
+    }
+
+    /// Puts a body behind the others.
+    pub(crate) fn add(&mut self, number: u32, body: BodyId, loss: Loss)
+        requires bare { IsBare loss.path }
+        requires loss { IsLoss loss.path (length self.old) loss }
+        ensures { self.new ≡ self.old ++ record { number = number; path = loss.path; body = body } ∷ [] }
+    {
+        let Loss { path, space } = loss;
+        make_room(&mut self.items, space);
+        let Ok(()) = self.items.push(LostItem { number, path, body }) else {
+            unreachable!();
+        };
+    }
+
+    /// Drops the bytes of this number.
+    pub(crate) fn forget(&mut self, number: u32)
+        ensures { self.new ≡ without_number number self.old }
+    {
+        self.items.retain(|item| item.number != number);
+    }
 }
