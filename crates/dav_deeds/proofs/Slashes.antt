@@ -1,6 +1,7 @@
 -- The text of a path without the slash at its end.
 use Rattle.std.proofs.Common.{◌≡◌, ◌≢◌, ℕ, ◌+◌, Bool, true, false, List, [], ◌∷◌, ◌++◌, length, Ok, refl, sym, ◌∙◌, ap, subst, arith, append-nil, append_assoc, length-append}
 use Rattle.std.proofs.lemmas.Bool.{false≢true}
+use Rattle.std.proofs.lemmas.List.{append_cancel_right}
 use Rattle.dav_text.specs.Path.{PathParts, IsPath, escaped, escaped_parts, escaped_segments}
 use Rattle.dav_text.specs.Reading.{path_of}
 use Rattle.dav_text.proofs.RoundTrip.{read_back}
@@ -16,18 +17,7 @@ no_slash p is off = ap (λ (b : Bool). record { segments = p.segments; slash = b
     by (x ∷ xs) h = off
 
 last_cut : (a b : List ℕ) → a ++ 47 ∷ [] ≡ b ++ 47 ∷ [] → a ≡ b
-last_cut [] [] h = refl
-last_cut [] (y ∷ ys) h =
-    let n : length (47 ∷ []) ≡ length ((y ∷ ys) ++ 47 ∷ []) = ap length h in
-    absurd (omega (arith, n, length-append ys (47 ∷ [])))
-last_cut (x ∷ xs) [] h =
-    let n : length ((x ∷ xs) ++ 47 ∷ []) ≡ length (47 ∷ []) = ap length h in
-    absurd (omega (arith, n, length-append xs (47 ∷ [])))
-last_cut (x ∷ xs) (y ∷ ys) h =
-    let head : x ≡ y = cc in
-    let tail : xs ++ 47 ∷ [] ≡ ys ++ 47 ∷ [] = cc in
-    let rest : xs ≡ ys = last_cut xs ys tail in
-    cc
+last_cut a b h = append_cancel_right a b (47 ∷ []) h
 
 pub ends : (p : PathParts) → p.slash ≡ true → ((front : List ℕ) → escaped p ≢ front ++ 47 ∷ []) → ⊥
 ends p on none = by p.segments p.slash on none

@@ -5,3 +5,4 @@ pub mod Effects
 pub mod Legal
 pub mod Fate
 pub mod Sound
+pub mod Made

@@ -6,9 +6,13 @@ mod answer;
 mod ask;
 mod bare;
 mod deed;
+mod fates;
 mod fault;
 mod laws;
+mod made;
 mod pause;
+mod queries;
+mod refusals;
 
 pub use answer::{Answer, Fated, Flight, Job, Told};
 pub use ask::{Ask, Done, Who};
