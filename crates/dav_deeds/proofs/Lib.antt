@@ -17,3 +17,4 @@ pub mod Released
 pub mod Resting
 pub mod Slashes
 pub mod Loops
+pub mod Making

@@ -6,3 +6,4 @@ pub mod Legal
 pub mod Fate
 pub mod Sound
 pub mod Made
+pub mod DeskView

@@ -1,13 +1,10 @@
--- What the code of a step gives, and when it has the memory that it needs.
-use Rattle.std.specs.Prelude.{◌≡◌, ℕ, ◌<◌, ◌≤◌, List, [], Option, Some, None, Result, Ok, Err, length}
-use Rattle.std.specs.Vec.{vec_capacity}
-use Rattle.dav_index.specs.Ready.{HasLoss}
-use Rattle.dav_index.specs.declared.table.Table.{Table}
-use Rattle.dav_deeds.specs.declared.answer.Flight.{Flight}
+-- What the code of a step gives.
+use Rattle.std.specs.Prelude.{◌≡◌, ℕ, List, [], Option, Some, None, Result, Ok, Err}
+use Rattle.dav_index.specs.Records.{text_of}
+use Rattle.dav_index.specs.declared.record.Record.{Record}
 use Rattle.dav_deeds.specs.declared.answer.Told.{Told}
 use Rattle.dav_deeds.specs.declared.answer.Told.TheVariants.{Idle}
 use Rattle.dav_deeds.specs.declared.ask.Ask.{Ask}
-use Rattle.dav_deeds.specs.declared.ask.Ask.TheVariants.{Store, Forget, Take, Settle, Stop}
 use Rattle.dav_deeds.specs.declared.ask.Who.{Who}
 use Rattle.dav_deeds.specs.declared.deed.Deed.{Deed}
 use Rattle.dav_deeds.specs.declared.deed.Mark.{Mark}
@@ -28,24 +25,20 @@ answer_by (marks.Body body) None = Err Memory
 answer_by (marks.Job number) None = Err Memory
 answer_by (marks.LostAs number) None = Err Memory
 
--- the step with this effect, what has to be written for it, and the table after it
-pub record IsMadeBy (t : DeskTable) (who : Who) (now : ℕ) (deed : Deed) (e : Effect) (made : Made) (u : DeskTable) : Type 0 where
+-- the row of a record, and no bytes where there is none
+abbrev pub row_of : Option Record → List ℕ
+row_of None = []
+row_of (Some r) = text_of r
+
+-- the step with this effect, the row of its record, and the table after it
+pub record IsMadeBy (t : DeskTable) (who : Who) (now : ℕ) (deed : Deed) (e : Effect) (made : Made) (row : List ℕ) (u : DeskTable) : Type 0 where
   pub step : made.step ≡ record { who = who; now = now; deed = deed; mark = e.mark; told = e.told; moment = 0 }
   pub answer : made.answer ≡ answer_by e.mark e.told
-  pub on_record : made.on_record ≡ e.on_record
   pub released : made.released.items ≡ e.released
+  pub row_is : row ≡ row_of e.on_record
   pub after : u ≡ changed t e
 
 -- the step that the ask is, or nothing where it is a take that finds nothing
-abbrev pub IsMade : DeskTable → Who → ℕ → Ask → Option Made → DeskTable → Type 0
-IsMade t who now ask None u = ((effect_of t now (deed_of t ask)).told ≡ Some Idle) × (u ≡ t)
-IsMade t who now ask (Some made) u = IsMadeBy t who now (deed_of t ask) (effect_of t now (deed_of t ask)) made u
-
--- whether the ask settles the job in flight
-abbrev pub IsSettling : Option Flight → Ask → Type 0
-IsSettling None ask = ⊥
-IsSettling (Some flight) (Store path bytes) = ⊥
-IsSettling (Some flight) (Forget path locks below) = ⊥
-IsSettling (Some flight) Take = ⊥
-IsSettling (Some flight) (Settle job done) = flight.number ≡ job
-IsSettling (Some flight) Stop = ⊥
+abbrev pub IsMade : DeskTable → Who → ℕ → Ask → Option Made → List ℕ → DeskTable → Type 0
+IsMade t who now ask None row u = ((effect_of t now (deed_of t ask)).told ≡ Some Idle) × (u ≡ t)
+IsMade t who now ask (Some made) row u = IsMadeBy t who now (deed_of t ask) (effect_of t now (deed_of t ask)) made row u
