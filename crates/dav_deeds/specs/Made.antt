@@ -47,14 +47,14 @@ AreRecords (Some r) = IsRecord r
 abbrev pub tried_by : Bool → Table → Flight → Option Wait
 tried_by stopping index flight =
     if stopping then
-      Some (record {
-        path = flight.path;
-        waiting = record {
-          attempts = (waiting_at flight.path index.entries).attempts;
-          due = (waiting_at flight.path index.entries).due;
-          tried = true;
-        };
-      })
+    Some (record {
+      path = flight.path;
+      waiting = record {
+        attempts = (waiting_at flight.path index.entries).attempts;
+        due = (waiting_at flight.path index.entries).due;
+        tried = true;
+      };
+    })
     else None
 
 -- how the bytes of the job wait, where that became of them

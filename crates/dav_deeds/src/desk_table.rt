@@ -9,12 +9,12 @@ ghost use Rattle.dav_deeds.specs.declared.ask.Ask.TheVariants as asks;
 ghost use Rattle.dav_deeds.specs.DeskTable.{started};
 ghost use Rattle.dav_deeds.specs.Refusals.{store_refusal, queued_with};
 ghost use Rattle.dav_deeds.specs.Effects.{bare, file_of, files_of, going, body_at as body_at_lem, is_flying, grounded, forgot_record as forgot_record_lem, mark_of_fate, record_of_fate, released_by_fate, fated_of, store_effect, forget_effect, taken, take_effect, settle_by_fate, stop_effect, waited, recorded};
-ghost use Rattle.dav_deeds.specs.Legal.{IsDone};
+ghost use Rattle.dav_deeds.specs.Legal.{IsAsk, IsDone};
 ghost use Rattle.dav_deeds.specs.Sound.{IsSound};
 ghost use Rattle.dav_deeds.specs.Made.{row_of, AreRecords, tried_by, wait_by as wait_by_lem, file_going as file_going_lem, IsMadeBy, IsMade};
 
 use crate::answer::{Fated, Flight, Told};
-use crate::ask::{Done, Who};
+use crate::ask::{Ask, Done, Who};
 use crate::bare::bare_path;
 use crate::deed::{Deed, Mark, Step};
 use crate::fates::{fated, waiting_at};
@@ -76,11 +76,7 @@ fn body_at(index: &Table, path: &Path) -> Option<BodyId>
 }
 
 // The file of the body, unless it is that of the job in flight.
-fn file_but(
-    alloc: Global,
-    job: &Option<Flight>,
-    body: Option<BodyId>,
-) -> Result<Vec<u32>, Memory>
+fn file_but(alloc: Global, job: &Option<Flight>, body: Option<BodyId>) -> Result<Vec<u32>, Memory>
     ensures { IfOk result (λ files. files.items ≡ grounded job.now (file_of body)) }
 {
     let mut files = Vec::new(alloc);
@@ -296,9 +292,46 @@ impl DeskTable {
         &self.index
     }
 
-    // The desk is about to end.
-    fn stop(&mut self, who: Who, now: u64) -> Made
-        ensures { IsMadeBy self.old who now Deed.Stop (stop_effect self.old) result [] self.new }
+    /// Makes the step that the ask is, if it is one: a take that finds nothing is none. Tells what has to be
+    /// written: of a store first the bytes in their body's file, then `row` in the index, unless it is
+    /// empty, and then the released files are cut. A refused ask changes nothing but the trace. The table
+    /// changes at once, so it is of no use any more where a device then fails.
+    pub fn make(
+        &mut self,
+        who: Who,
+        ask: &Ask,
+        now: u64,
+        row: &mut Vec<u8>,
+    ) -> Result<Option<Made>, Memory>
+        requires ask { IsAsk ask.now }
+        requires blank { row.old.items ≡ [] }
+        ensures ok { IfOk result (λ made. IsMade self.old who now ask.now made row.new.items self.new) }
+        ensures err { OnErr result (self.new ≡ self.old) }
+    {
+        match ask {
+            Ask::Store { path, bytes } => {
+                let made = self.store(who, now, path, bytes, row)?;
+                Ok(Some(made))
+            }
+            Ask::Forget { path, locks, below } => {
+                let made = self.forget(who, now, path, *locks, *below, row)?;
+                Ok(Some(made))
+            }
+            Ask::Take => {
+                let made = self.take(who, now)?;
+                Ok(made)
+            }
+            Ask::Settle { job, done } => {
+                let made = self.settle(who, now, *job, done, row)?;
+                Ok(Some(made))
+            }
+            Ask::Stop => Ok(Some(self.stop(who, now))),
+        }
+    }
+
+    /// The desk is about to end: no attempt waits any more.
+    pub fn stop(&mut self, who: Who, now: u64) -> Made
+        ensures { IsMade self.old who now asks.Stop (Some result) [] self.new }
     {
         self.stopping = true;
         Made {

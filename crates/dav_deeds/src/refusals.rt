@@ -93,11 +93,8 @@ pub fn store_fault(
 fn queued_with<'a>(index: &'a Table, path: &Path, below: bool) -> Option<&'a Held>
     ensures { option_copied result ≡ queued_with_lem path.now below index.now.entries }
 {
-    index
-        .entries
-        .as_slice()
-        .iter()
-        .find(|held| held.entry().queued.is_some() && held.goes_with(path, below))
+    index.entries.as_slice().iter().find(|held| held.entry().queued.is_some()
+        && held.goes_with(path, below))
 }
 
 /// Why the path can't be forgotten.
