@@ -3,7 +3,7 @@ pub mod Entries
 pub mod Queued
 pub mod Fits
 pub mod Taking
-pub mod Fates
+pub mod Stories
 pub mod Restart
 pub mod Weights
 pub mod Bodies
@@ -15,3 +15,6 @@ pub mod Sounds
 pub mod Naming
 pub mod Released
 pub mod Resting
+pub mod Slashes
+pub mod Loops
+pub mod Making

@@ -180,7 +180,7 @@ module _ (t : DeskTable) (s : IsSound t) where
         job = subst (λ (u : Table). IsJobWithin e.job u) (sym at) (subst (λ (job : Option Flight). IsJobWithin job t.index) (sym same) s.job);
       }
 
-  store_sound : (now : ℕ) (path : PathParts) (len : ℕ) (body : Option BodyId) → IsPath path → store_refusal t.index path len ≡ None → IsBodyUnless None t.index.next_file len body → Sounds t (store_effect t path now body)
+  pub store_sound : (now : ℕ) (path : PathParts) (len : ℕ) (body : Option BodyId) → IsPath path → store_refusal t.index path len ≡ None → IsBodyUnless None t.index.next_file len body → Sounds t (store_effect t path now body)
   store_sound now path len None is free h = absurd h
   store_sound now path len (Some body) is free h =
       let f : IsFree t.index path len = store_free t.index path len s.index free in
@@ -205,7 +205,7 @@ module _ (t : DeskTable) (s : IsSound t) where
       same_queued : queued_at path t.index.entries ≡ queued_at (bare path) t.index.entries
       same_queued = ap (option_and_then queued_body) same_entry
 
-  forget_sound : (path : PathParts) (locks below : Bool) → queued_with path below t.index.entries ≡ None → Sounds t (forget_effect t path locks below)
+  pub forget_sound : (path : PathParts) (locks below : Bool) → queued_with path below t.index.entries ≡ None → Sounds t (forget_effect t path locks below)
   forget_sound path locks below none = by (going path below t.index.entries)
     where
       by : (items : List Item) → IsSound (record { index = recorded t.index (forgot_record path locks below items); job = t.job; jobs = t.jobs; stopping = t.stopping })
@@ -215,7 +215,7 @@ module _ (t : DeskTable) (s : IsSound t) where
         job = job_moves t.job t.index (replay t.index (records.Forgot path locks below)) (λ flight within. forgot_flight t.index path locks below flight none within) s.job;
       }
 
-  take_sound : (now : ℕ) (o : Option Flight) → taken t now ≡ o → Sounds t (take_effect t o)
+  pub take_sound : (now : ℕ) (o : Option Flight) → taken t now ≡ o → Sounds t (take_effect t o)
   take_sound now None is = quiet_sound (take_effect t None) refl refl refl
   take_sound now (Some flight) is = record {
     index = waited_within t.index (tried t flight) s.index;
@@ -242,7 +242,7 @@ module _ (t : DeskTable) (s : IsSound t) where
   fate_sound flight ends.Refused (fates.Waits n due) within noted lost = record { index = waited_within t.index (settle_by_fate t flight ends.Refused (fates.Waits n due)).waits s.index; job = tt }
   fate_sound flight ends.Refused (fates.Lost n) within noted lost = record { index = loss_sound flight n within (lost n refl); job = tt }
 
-  settle_sound : (job : Option Flight) (now : ℕ) (done : Done) → t.job ≡ job → IsDone done → Sounds t (settle_effect t job now done)
+  pub settle_sound : (job : Option Flight) (now : ℕ) (done : Done) → t.job ≡ job → IsDone done → Sounds t (settle_effect t job now done)
   settle_sound None now done same noted = quiet_sound (settle_effect t None now done) refl refl refl
   settle_sound (Some flight) now done same noted =
       fate_sound flight done (fated_of t.index flight now done) (subst (λ (job : Option Flight). IsJobWithin job t.index) same s.job) noted (λ n is. loss_is t.index flight now done n is)

@@ -192,10 +192,14 @@ take_effect t (Some flight) = record {
 abbrev pub is_current : Table → Flight → Bool
 is_current t flight = has_file flight.body.file (queued_at flight.path t.entries)
 
--- how many seconds to wait after this many attempts: 30, doubled each time, and at most 300, or longer
--- where the server asked for it, but at most an hour
+-- 30 seconds, doubled with each attempt after the first, and at most 300
+abbrev pub doubled : ℕ → ℕ
+doubled attempts = min (30 * 2 ^ (attempts - 1)) 300
+
+-- how many seconds to wait after this many attempts: longer where the server asked for it, but for that at
+-- most an hour
 abbrev pub pause : ℕ → ℕ → ℕ
-pause attempts after = max (min (30 * 2 ^ (attempts - 1)) 300) (min after 3600)
+pause attempts after = max (doubled attempts) (min after 3600)
 
 -- one more attempt was in vain: the bytes wait, or are lost after the fifteenth
 abbrev pub fated_again : Table → Waiting → ℕ → ℕ → Fated

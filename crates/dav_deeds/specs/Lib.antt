@@ -5,3 +5,5 @@ pub mod Effects
 pub mod Legal
 pub mod Fate
 pub mod Sound
+pub mod Made
+pub mod DeskView

@@ -1,5 +1,7 @@
+ghost use Rattle.std.specs.Prelude.{◌≡◌, IfOk};
+
 use dav_text::{Memory, Path, Text, Which};
-use std::alloc::{AllocError, AllocFailed};
+use std::alloc::{AllocError, AllocFailed, Global};
 use std::error::Error;
 use std::fmt;
 
@@ -51,6 +53,43 @@ pub enum DeskFault {
     },
     /// Want of memory.
     Memory,
+}
+
+impl DeskFault {
+    /// Another value of the same fault.
+    pub fn copy(&self, alloc: Global) -> Result<DeskFault, Memory>
+        ensures { IfOk result (λ fault. fault ≡ self.now) }
+    {
+        match self {
+            DeskFault::Disk => Ok(DeskFault::Disk),
+            DeskFault::NotACache { at } => Ok(DeskFault::NotACache { at: *at }),
+            DeskFault::Damaged {
+                file,
+                stored,
+                found,
+            } => Ok(DeskFault::Damaged {
+                file: *file,
+                stored: *stored,
+                found: *found,
+            }),
+            DeskFault::OtherServer { kept, asked } => {
+                let kept = kept.copy(alloc)?;
+                let asked = asked.copy(alloc)?;
+                Ok(DeskFault::OtherServer { kept, asked })
+            }
+            DeskFault::Queued { path } => {
+                let path = path.copy(alloc)?;
+                Ok(DeskFault::Queued { path })
+            }
+            DeskFault::NoSuchJob { number } => Ok(DeskFault::NoSuchJob { number: *number }),
+            DeskFault::Crowded { oldest } => {
+                let oldest = oldest.copy(alloc)?;
+                Ok(DeskFault::Crowded { oldest })
+            }
+            DeskFault::Limit { which } => Ok(DeskFault::Limit { which: *which }),
+            DeskFault::Memory => Ok(DeskFault::Memory),
+        }
+    }
 }
 
 impl fmt::Display for DeskFault {

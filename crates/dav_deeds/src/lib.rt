@@ -4,15 +4,27 @@
 
 mod answer;
 mod ask;
+mod bare;
 mod deed;
+mod desk_table;
+mod fates;
 mod fault;
 mod laws;
+mod made;
+mod pause;
+mod queries;
+mod refusals;
 
 pub use answer::{Answer, Fated, Flight, Job, Told};
 pub use ask::{Ask, Done, Who};
 pub use deed::{Deed, Mark, Step, Trace};
+pub use desk_table::DeskTable;
 pub use fault::DeskFault;
 pub use laws::{
     deeds_keep_bounds, deeds_name_one_body, last_bytes_are_kept, records_are_enough,
     records_are_written, released_files_are_free, starts_keep_bodies,
 };
+pub use made::Made;
+
+#[cfg(test)]
+mod tests;

@@ -1,4 +1,4 @@
-use Rattle.dav_deeds.proofs.Fates.{kept}
+use Rattle.dav_deeds.proofs.Stories.{kept}
 use Rattle.dav_deeds.proofs.laws.last_bytes_are_kept.Goals as goal
 
 pub returns : goal.returns
