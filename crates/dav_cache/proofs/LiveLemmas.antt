@@ -11,7 +11,7 @@ use Rattle.dav_deeds.specs.DeskTable.{DeskTable, started}
 use Rattle.dav_deeds.specs.Effects.{after, record_of, recorded}
 use Rattle.dav_deeds.specs.Legal.{IsLegal, Legal, table_after}
 use Rattle.dav_deeds.specs.declared.deed.Step.{Step}
-use Rattle.dav_deeds.proofs.Fates.{legal_front, legal_push}
+use Rattle.dav_deeds.proofs.Stories.{legal_front, legal_push}
 use Rattle.dav_deeds.proofs.Restart.{changed_reopens, reopens}
 use Rattle.dav_deeds.specs.declared.deed.Mark.TheVariants.{Plain}
 use Rattle.dav_deeds.proofs.Taking.{table_push}

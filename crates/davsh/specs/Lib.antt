@@ -9,3 +9,4 @@ pub mod Run
 pub mod Said
 pub mod Shell
 pub mod Words
+pub mod Codes

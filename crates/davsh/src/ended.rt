@@ -20,8 +20,12 @@ pub enum Status {
 }
 
 impl Status {
+    ghost use Rattle.davsh.specs.Codes.{code_of};
+
     /// The status that the process ends with.
-    pub fn code(self) -> u8 {
+    pub fn code(self) -> u8
+        ensures { result ≡ code_of self }
+    {
         match self {
             Status::Done => 0,
             Status::Faults => 1,

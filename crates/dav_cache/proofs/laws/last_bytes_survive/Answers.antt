@@ -1,4 +1,4 @@
-use Rattle.dav_deeds.proofs.Fates.{kept}
+use Rattle.dav_deeds.proofs.Stories.{kept}
 use Rattle.dav_cache.proofs.LiveLemmas.{legal_done}
 use Rattle.dav_cache.proofs.laws.last_bytes_survive.Goals as goal
 
