@@ -8,3 +8,5 @@ pub mod Segments
 pub mod PlaceLemmas
 pub mod ItemLemmas
 pub mod EntryLemmas
+pub mod BoundLemmas
+pub mod LawLemmas

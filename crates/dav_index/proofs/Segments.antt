@@ -32,15 +32,15 @@ same_test P false false from to bfrom bto = refl
 pub same_is : (a b : PathParts) (r : Bool) → (IsTrue r ↔ IsSame a b) → r ≡ same_path a b
 same_is a b r h = same_test (a.segments ≡ b.segments) r (same_path a b) h.0 h.1 (from_same a.segments b.segments) (same_true a.segments b.segments)
 
-and_first : (a b : Bool) → (a && b) ≡ true → a ≡ true
+pub and_first : (a b : Bool) → (a && b) ≡ true → a ≡ true
 and_first true b h = refl
 and_first false b h = h
 
-and_second : (a b : Bool) → (a && b) ≡ true → b ≡ true
+pub and_second : (a b : Bool) → (a && b) ≡ true → b ≡ true
 and_second true b h = h
 and_second false b h = absurd (false≢true h)
 
-and_both : (a b : Bool) → a ≡ true → b ≡ true → (a && b) ≡ true
+pub and_both : (a b : Bool) → a ≡ true → b ≡ true → (a && b) ≡ true
 and_both a b p q = ap (λ c. c && b) p ∙ q
 
 pub below_is : (path top : PathParts) (r : Bool) → (IsTrue r ↔ IsUnder path top) → r ≡ is_below top path

@@ -17,7 +17,7 @@ head_of : ℕ → List ℕ → ℕ
 head_of d [] = d
 head_of d (x ∷ xs) = x
 
-same_first : (x y : ℕ) (xs ys : List ℕ) → x ∷ xs ≡ y ∷ ys → x ≡ y
+pub same_first : (x y : ℕ) (xs ys : List ℕ) → x ∷ xs ≡ y ∷ ys → x ≡ y
 unfolding head_of
 same_first x y xs ys e = ap (head_of 0) e
 

@@ -13,3 +13,4 @@ pub mod Reading
 pub mod Flawed
 pub mod Places
 pub mod Ready
+pub mod Tests

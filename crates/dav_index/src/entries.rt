@@ -3,7 +3,7 @@ ghost use Rattle.std.specs.Option.{option_copied};
 ghost use Rattle.std.specs.Ordering.{nat_cmp, is_lt};
 ghost use Rattle.std.specs.Cmp.Lexicographic.{slice_cmp};
 ghost use Rattle.dav_index.specs.Item.{Item};
-ghost use Rattle.dav_index.specs.Items.{key_of, has_path, is_item_below, goes_with as goes_with_lem, entry_at, with_entry, with_new, with_changed, without_entry};
+ghost use Rattle.dav_index.specs.Items.{key_of, has_path, is_item_below, goes_with as goes_with_lem, IsMap, entry_at, with_entry, with_new, with_changed, without_entry};
 ghost use Rattle.dav_index.specs.Places.{IsFirst, IsFirstOrEnd, NonePasses};
 ghost use Rattle.dav_index.specs.Ready.{NeedsFresh, IsFresh};
 ghost use Rattle.dav_index.specs.Tables.{queued_at, closed_entry, sent_entry, emptied_entry, waiting_so};
@@ -122,7 +122,8 @@ impl Entries {
 
     /// The entries with their paths, in the order of the paths' texts.
     pub fn as_slice(&self) -> &[Held]
-        ensures { result.now ≡ self.now }
+        ensures value { result.now ≡ self.now }
+        ensures in_order { IsMap self.now }
     {
         self.items.as_slice()
     }

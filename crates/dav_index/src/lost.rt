@@ -1,6 +1,8 @@
 ghost use Rattle.std.specs.Prelude.{◌≡◌, ◌++◌, ◌∷◌, [], length};
 ghost use Rattle.std.specs.Option.{option_copied};
 ghost use Rattle.dav_index.specs.Bounds.{lost_at};
+ghost use Rattle.dav_index.specs.Items.{Every};
+ghost use Rattle.dav_index.specs.declared.lost.LostItem.{LostItem};
 ghost use Rattle.dav_index.specs.Ready.{IsLoss};
 ghost use Rattle.dav_index.specs.Records.{IsBare};
 ghost use Rattle.dav_index.specs.Tables.{without_number};
@@ -56,7 +58,8 @@ impl LostList {
 
     /// The lost bytes, in the order of their records.
     pub fn as_slice(&self) -> &[LostItem]
-        ensures { result.now ≡ self.now }
+        ensures value { result.now ≡ self.now }
+        ensures paths { Every (λ (item : LostItem). IsBare item.path) self.now }
     {
         self.items.as_slice()
     }

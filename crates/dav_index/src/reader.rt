@@ -12,6 +12,9 @@ use dav_text::{Memory, Path, PathFault, Seen, Tag};
 use std::alloc::Global;
 use std::marker::Model;
 
+/// The first file that may hold a body.
+const FIRST_FILE: u32 = 2;
+
 /// The bytes of a record that are left, and the offset at which they begin.
 #[derive(Drop)]
 pub(crate) struct Reader<'a> {
@@ -70,7 +73,7 @@ impl<'a> Reader<'a> {
         let Some(body) = body_of(self.rest) else {
             return Err(RecordFault::Short);
         };
-        if body.file < 2 {
+        if body.file < FIRST_FILE {
             return Err(RecordFault::Field { at: self.at });
         }
         self.skip(44);

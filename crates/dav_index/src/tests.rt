@@ -1,5 +1,6 @@
-use crate::{Record, RecordFault};
+use crate::{Record, RecordFault, Table};
 use dav_store::BodyId;
+use dav_text::Path;
 use std::alloc::Global;
 use std::process::Abort;
 use std::test::Fail;
@@ -114,5 +115,206 @@ fn a_body_in_file_1_is_none(rt: HostRuntime) -> Result<(), Fail> {
     assert!(rt; fault_of(alloc, &closed) == Err(RecordFault::Field { at: 5 }));
     let cut = &closed[..closed.len() - 1];
     assert!(rt; fault_of(alloc, cut) == Err(RecordFault::Short));
+    Ok(())
+}
+
+/// A record, written short.
+#[derive(Clone, Copy)]
+enum Act<'a> {
+    Closed(&'a str, u8),
+    Sent(&'a str, u8),
+    Lost(u8, &'a str, u8),
+    Dropped(u8),
+    Forgot(&'a str, u8),
+}
+
+/// The payload of a record.
+fn payload_of(alloc: Global, act: Act<'_>) -> Result<Vec<u8>, Fail> {
+    let mut text = Vec::new(alloc);
+    match act {
+        Act::Closed(path, file) => {
+            text.push(3)?;
+            push_path(&mut text, path)?;
+            text.extend_from_slice(&[0, 0, 0, file, 0, 0, 0, 0, 0, 0, 0, 9])?;
+            text.extend_from_slice(&[7; 32])?;
+        }
+        Act::Sent(path, file) => {
+            text.push(4)?;
+            push_path(&mut text, path)?;
+            text.extend_from_slice(&[0, 0, 0, file, 2])?;
+        }
+        Act::Lost(number, path, stays) => {
+            text.extend_from_slice(&[5, 0, 0, 0, number])?;
+            push_path(&mut text, path)?;
+            text.push(stays)?;
+        }
+        Act::Dropped(number) => text.extend_from_slice(&[6, 0, 0, 0, number])?,
+        Act::Forgot(path, flags) => {
+            text.push(2)?;
+            push_path(&mut text, path)?;
+            text.push(flags)?;
+        }
+    }
+    Ok(text)
+}
+
+/// A path of at most 255 bytes behind its length.
+fn push_path(text: &mut Vec<u8>, path: &str) -> Result<(), Fail> {
+    text.push(0)?;
+    text.push(u8::try_from(path.len()).unwrap_or(0))?;
+    text.extend_from_slice(path.as_bytes())?;
+    Ok(())
+}
+
+/// The entries as their paths with `+` where they are queued, the file and the age, and then what is lost
+/// and the next numbers.
+fn table_text(alloc: Global, table: &Table) -> Result<String, Fail> {
+    let mut text = String::new(alloc);
+    for held in table.entries.as_slice() {
+        let path = held.path().escaped(alloc)?;
+        let name = path.as_str();
+        let mark = if held.entry().queued.is_some() {
+            "+"
+        } else {
+            "-"
+        };
+        let file = match held.entry().body {
+            Some(body) => body.file,
+            None => 0,
+        };
+        let age = held.entry().age;
+        text.push_str(&format!(in alloc; "{name}{mark}{file}@{age} ")?)?;
+    }
+    for item in table.lost.as_slice() {
+        let path = item.path.escaped(alloc)?;
+        let name = path.as_str();
+        let number = item.number;
+        let file = item.body.file;
+        text.push_str(&format!(in alloc; "{number}={name}:{file} ")?)?;
+    }
+    let files = table.next_file;
+    let numbers = table.next_lost;
+    text.push_str(&format!(in alloc; "{files} {numbers}")?)?;
+    Ok(text)
+}
+
+/// Replays the records, and looks at the table.
+fn walk(rt: &impl Abort, alloc: Global, acts: &[Act<'_>], want: &str) -> Result<(), Fail> {
+    let mut table = Table::new(alloc);
+    for act in acts {
+        let record = Record::read(alloc, &payload_of(alloc, *act)?)?;
+        let Some(row) = table.records.checked_add(1) else {
+            return Ok(());
+        };
+        table.replay(row, &record)?;
+    }
+    assert_eq!(rt; table_text(alloc, &table)?.as_str(), want);
+    Ok(())
+}
+
+#[test]
+fn what_each_record_does(rt: HostRuntime) -> Result<(), Fail> {
+    let alloc = rt.alloc();
+    walk(&rt, alloc, &[], "2 1")?;
+    let three: [Act<'_>; 3] = [
+        Act::Closed("/b", 2),
+        Act::Closed("/a-c", 3),
+        Act::Closed("/a/c", 4),
+    ];
+    walk(&rt, alloc, &three, "/a-c+3@2 /a/c+4@3 /b+2@1 5 1")?;
+    let again: [Act<'_>; 2] = [Act::Closed("/a", 2), Act::Closed("/a", 3)];
+    walk(&rt, alloc, &again, "/a+3@2 4 1")?;
+    let sent: [Act<'_>; 2] = [Act::Closed("/a", 2), Act::Sent("/a", 2)];
+    walk(&rt, alloc, &sent, "/a-2@2 3 1")?;
+    let superseded: [Act<'_>; 3] = [
+        Act::Closed("/a", 2),
+        Act::Closed("/a", 3),
+        Act::Sent("/a", 2),
+    ];
+    walk(&rt, alloc, &superseded, "/a+3@3 4 1")?;
+    let lost: [Act<'_>; 2] = [Act::Closed("/a", 2), Act::Lost(1, "/a", 0)];
+    walk(&rt, alloc, &lost, "1=/a:2 3 2")?;
+    let stays: [Act<'_>; 2] = [Act::Closed("/a", 2), Act::Lost(1, "/a", 1)];
+    walk(&rt, alloc, &stays, "/a-0@2 1=/a:2 3 2")?;
+    let dropped: [Act<'_>; 3] = [Act::Closed("/a", 2), Act::Lost(1, "/a", 0), Act::Dropped(1)];
+    walk(&rt, alloc, &dropped, "3 2")?;
+    Ok(())
+}
+
+#[test]
+fn what_is_forgotten(rt: HostRuntime) -> Result<(), Fail> {
+    let alloc = rt.alloc();
+    let one: [Act<'_>; 3] = [
+        Act::Closed("/a", 2),
+        Act::Closed("/a/b", 3),
+        Act::Forgot("/a/", 0),
+    ];
+    walk(&rt, alloc, &one, "/a/b+3@2 4 1")?;
+    let below: [Act<'_>; 4] = [
+        Act::Closed("/a", 2),
+        Act::Closed("/a/b", 3),
+        Act::Closed("/ab", 4),
+        Act::Forgot("/a", 2),
+    ];
+    walk(&rt, alloc, &below, "/ab+4@3 5 1")?;
+    Ok(())
+}
+
+#[test]
+fn records_of_what_is_not_there(rt: HostRuntime) -> Result<(), Fail> {
+    let alloc = rt.alloc();
+    let absent: [Act<'_>; 4] = [
+        Act::Sent("/a", 9),
+        Act::Lost(3, "/a", 0),
+        Act::Dropped(5),
+        Act::Forgot("/a", 3),
+    ];
+    walk(&rt, alloc, &absent, "10 6")?;
+    let clean: [Act<'_>; 3] = [
+        Act::Closed("/a", 2),
+        Act::Sent("/a", 2),
+        Act::Lost(1, "/a", 0),
+    ];
+    walk(&rt, alloc, &clean, "/a-2@2 3 2")?;
+    Ok(())
+}
+
+/// Whether the table after the records is within its bounds.
+fn is_within(alloc: Global, acts: &[Act<'_>]) -> Result<bool, Fail> {
+    let mut table = Table::new(alloc);
+    for act in acts {
+        let record = Record::read(alloc, &payload_of(alloc, *act)?)?;
+        let Some(row) = table.records.checked_add(1) else {
+            return Ok(false);
+        };
+        table.replay(row, &record)?;
+    }
+    Ok(table.is_within())
+}
+
+#[test]
+fn which_tables_are_within_their_bounds(rt: HostRuntime) -> Result<(), Fail> {
+    let alloc = rt.alloc();
+    assert!(rt; is_within(alloc, &[])?);
+    let one: [Act<'_>; 1] = [Act::Closed("/a", 2)];
+    assert!(rt; is_within(alloc, &one)?);
+    let twice: [Act<'_>; 2] = [Act::Closed("/a", 3), Act::Closed("/b", 3)];
+    assert!(rt; !is_within(alloc, &twice)?);
+    let renewed: [Act<'_>; 2] = [Act::Closed("/a", 3), Act::Closed("/a", 3)];
+    assert!(rt; is_within(alloc, &renewed)?);
+    let numbered: [Act<'_>; 1] = [Act::Dropped(1)];
+    assert!(rt; !is_within(alloc, &numbered)?);
+    Ok(())
+}
+
+#[test]
+fn a_path_is_looked_up_without_its_slash(rt: HostRuntime) -> Result<(), Fail> {
+    let alloc = rt.alloc();
+    let mut table = Table::new(alloc);
+    let record = Record::read(alloc, &payload_of(alloc, Act::Closed("/a", 2))?)?;
+    table.replay(1, &record)?;
+    assert!(rt; table.entries.get(&Path::read(alloc, "/a/")?).is_some());
+    assert!(rt; table.entries.queued(&Path::read(alloc, "/a")?).is_some());
+    assert!(rt; table.entries.get(&Path::read(alloc, "/b")?).is_none());
     Ok(())
 }

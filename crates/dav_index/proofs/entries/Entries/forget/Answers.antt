@@ -9,10 +9,10 @@ use Rattle.dav_index.proofs.entries.Entries.forget.Goals as goal
 pub invariant_of-self : goal.invariant_of-self
 invariant_of-self c =
     let test = λ (item : Item). not (goes_with c.args.path.now c.args.below item) in
-    subst IsMap (sym (filter_same _ test _ (λ x b q k. search rules) _ _ c.retain.ensures.filtered)) (IsMap-filter test c.self.inside.items.items c.self.invariant)
+    subst IsMap (sym (filter_same _ test _ (λ x b q k. search rules) c.self.inside.items.items c.retain.new.self.items c.retain.ensures.filtered)) (IsMap-filter test c.self.inside.items.items c.self.invariant)
 
 pub returns : goal.returns
 unfolding without_entry
 returns c =
     let test = λ (item : Item). not (goes_with c.args.path.now c.args.below item) in
-    filter_same _ test _ (λ x b q k. search rules) _ _ c.retain.ensures.filtered ∙ ap (filter test) c.self.view_is
+    filter_same _ test _ (λ x b q k. search rules) c.self.inside.items.items c.retain.new.self.items c.retain.ensures.filtered ∙ ap (filter test) c.self.view_is

@@ -9,5 +9,5 @@ returns c =
       path_is = c.in_ok-copy.ensures;
       key_is = c.in_ok-escaped.ensures ∙ key_of_bare c.args.path.now c.requires;
       empty = c.in_ok-with_capacity.ensures.items;
-      room = omega (arith, c.in_ok-with_capacity.ensures.exact, ap length c.as_slice-len.ensures);
+      room = omega (arith, c.in_ok-with_capacity.ensures.exact, ap length c.as_slice-len.ensures.value);
     })
