@@ -65,18 +65,25 @@ fn attempts_fall_due(rt: HostRuntime) -> Result<(), Fail> {
     let mut desk = DeskTable::start(alloc, Table::new(alloc));
     told(alloc, &mut desk, &store(alloc, "/a", b"hello")?, 0)?;
     assert_eq!(rt; take(alloc, &mut desk, 9)?, 0);
-    let moments: [u64; 15] = [
-        10, 40, 100, 220, 460, 760, 1060, 1360, 1660, 1960, 2260, 2560, 2860, 3160, 3460,
+    let attempts: [(u32, u64, u64); 14] = [
+        (1, 10, 40),
+        (2, 40, 100),
+        (3, 100, 220),
+        (4, 220, 460),
+        (5, 460, 760),
+        (6, 760, 1060),
+        (7, 1060, 1360),
+        (8, 1360, 1660),
+        (9, 1660, 1960),
+        (10, 1960, 2260),
+        (11, 2260, 2560),
+        (12, 2560, 2860),
+        (13, 2860, 3160),
+        (14, 3160, 3460),
     ];
-    let mut attempts = 0;
-    for pair in moments.windows(2) {
-        attempts += 1;
-        let fated = again(alloc, &mut desk, pair[0], 0)?;
-        let want = Fated::Waits {
-            attempts,
-            due: pair[1],
-        };
-        assert_eq!(rt; fated, Some(want));
+    for (attempts, now, due) in attempts {
+        let fated = again(alloc, &mut desk, now, 0)?;
+        assert_eq!(rt; fated, Some(Fated::Waits { attempts, due }));
     }
     let last = again(alloc, &mut desk, 3460, 0)?;
     assert_eq!(rt; last, Some(Fated::Lost { number: 1 }));
