@@ -7,6 +7,11 @@ pub mod TagSounding
 pub mod Tokens
 pub mod Marking
 pub mod Completing
-pub mod Living
 pub mod Reading
+pub mod Whole
+pub mod ReferenceBytes
+pub mod Living
+pub mod Keeping
+pub mod Finishing
+pub mod OneTree
 pub mod Agreement

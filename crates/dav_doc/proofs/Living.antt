@@ -25,21 +25,39 @@ use Rattle.dav_doc.proofs.KindFacts.{all_more, and_of}
 use Rattle.dav_doc.proofs.TagSounding.{parts_are, is_attribute}
 use Rattle.dav_doc.proofs.Marking.{word_goes}
 use Rattle.dav_doc.proofs.Completing.{value_references, refers_in, value_ends, attributes_go, further, leaves, bare_goes, opens_go, left_goes, end_blanks_go, end_goes, refers_text, text_references}
+use Rattle.dav_doc.specs.Characters.{Whole, Owes, Special, is_ascii}
+use Rattle.dav_doc.proofs.Sounding.{written_longer}
+use Rattle.dav_doc.proofs.Whole.{IsWhole, whole_more, ascii_first, ascii_whole, all_later, rest_whole, front_whole, AreWhole, PlaceWhole, NamesWhole, TagWhole, ascii_words, Kept}
+use Rattle.dav_doc.proofs.ReferenceBytes.{reference_ascii}
 
--- some text ends the document
-pub record Lives (st : State) : Type 0 where
+-- some text ends the document, of whole characters where K
+pub record Lives (K : Type 0) (st : State) : Type 0 where
   pub text : List ℕ
   pub events : List Event
   pub goes : Goes st text (Text [] Zero) events
+  pub whole : K → IsWhole text
 
-before : (a b : State) (x : ℕ) → step a x ≡ To b [] → Lives b → Lives a
-before a b x h l = record { text = x ∷ l.text; events = l.events; goes = goes_cons a b (Text [] Zero) x l.text [] l.events h l.goes }
+before_if : {K : Type 0} (a b : State) (x : ℕ) → (K → is_ascii x ≡ true) → step a x ≡ To b [] → Lives K b → Lives K a
+before_if a b x i h l = record {
+  text = x ∷ l.text;
+  events = l.events;
+  goes = goes_cons a b (Text [] Zero) x l.text [] l.events h l.goes;
+  whole = λ k. ascii_first x l.text (i k) (l.whole k);
+}
 
-pub text_lives : (os : List Open) (n : Brackets) → Lives (Text os n)
-text_lives [] n = record { text = 32 ∷ []; events = []; goes = refl }
-text_lives (o ∷ os) n =
-    let l = text_lives os Zero in
-    record { text = end_tag o.name [] ++ l.text; events = End (length os + 1) ∷ l.events; goes = end_goes o os n [] l.text (Text [] Zero) l.events refl l.goes }
+before : {K : Type 0} (a b : State) (x : ℕ) → is_ascii x ≡ true → step a x ≡ To b [] → Lives K b → Lives K a
+before a b x i h l = before_if a b x (λ k. i) h l
+
+pub text_lives : {K : Type 0} (os : List Open) (n : Brackets) → (K → AreWhole os) → Lives K (Text os n)
+text_lives [] n w = record { text = 32 ∷ []; events = []; goes = refl; whole = λ k. refl }
+text_lives (o ∷ os) n w =
+    let l = text_lives os Zero (λ k. (w k).1) in
+    record {
+      text = end_tag o.name [] ++ l.text;
+      events = End (length os + 1) ∷ l.events;
+      goes = end_goes o os n [] l.text (Text [] Zero) l.events refl l.goes;
+      whole = λ k. whole_more (end_tag o.name []) l.text (whole_more (written o.name) (62 ∷ []) (w k).0 refl) (l.whole k);
+    }
 
 -- Prefixes that are still to be declared.
 abbrev pub supply_name : List ℕ → Name
@@ -185,21 +203,38 @@ blanks_here os t w h =
     (blanks_go (InTag os t) (tag_spaces os t) [] w [] (InTag os t w) [] h refl)
 
 -- it lives by a text that ends a name
-pub record LivesOn (st : State) : Type 0 where
+pub record LivesOn (K : Type 0) (st : State) : Type 0 where
   pub text : List ℕ
   pub events : List Event
   pub goes : Goes st text (Text [] Zero) events
+  pub whole : K → IsWhole text
   pub leaves : leaves text ≡ true
 
 supply_text : (w a m z : List ℕ) → (((w ++ (32 ∷ [])) ++ a) ++ m) ++ z ≡ w ++ (((32 ∷ a) ++ m) ++ z)
 supply_text w a m z = simp append_assoc
 
-pub tag_lives : (os : List Open) (t : Tag) (w : List ℕ) → IsTagFront t w → LivesOn (InTag os t w)
-tag_lives os t w h =
+-- the declarations that are still wanted are of whole characters
+prefix_whole : (n : Name) → IsWhole (written n) → IsWhole (prefix_of n)
+prefix_whole (Plain l) h = refl
+prefix_whole (Qualified p l) h = front_whole p 58 l refl h
+
+supply_whole : (p : List ℕ) → IsWhole p → IsWhole (written (supply_name p) ++ (61 ∷ 34 ∷ 120 ∷ 34 ∷ []))
+supply_whole [] h = refl
+supply_whole (b ∷ p) h = whole_more (b ∷ p) (61 ∷ 34 ∷ 120 ∷ 34 ∷ []) h refl
+
+supplies_whole : (xs : List Attribute) → NamesWhole xs → IsWhole (attributes_text (supplies [] (prefixes xs)))
+supplies_whole [] h = refl
+supplies_whole (a ∷ xs) h =
+    let p = prefix_of a.name in
+    whole_more (32 ∷ (written (supply_name p) ++ (61 ∷ 34 ∷ 120 ∷ 34 ∷ []))) (attributes_text (supplies [] (prefixes xs)))
+    (supply_whole p (prefix_whole a.name h.0)) (supplies_whole xs h.1)
+
+pub tag_lives : {K : Type 0} (os : List Open) (t : Tag) (w : List ℕ) → IsTagFront t w → (K → TagWhole os t) → LivesOn K (InTag os t w)
+tag_lives os t w h i =
     let more = supplies w (wanted t) in
     let all = further t more in
     let r = resolves (scope_of os) t w in
-    let l = text_lives (record { name = t.name; scope = declared all.attributes (scope_of os) } ∷ os) Zero in
+    let l = text_lives (record { name = t.name; scope = declared all.attributes (scope_of os) } ∷ os) Zero (λ k. ((i k).name, (i k).above)) in
     let e = Start (length os + 1) r.0 (local_of t.name) ∷ l.events in
     let g1 = opens_go os all [] r.0 l.text (Text [] Zero) l.events r.1 l.goes in
     let g2 = attributes_go os t more (62 ∷ l.text) (Text [] Zero) e (wanted_are t w h) g1 in
@@ -207,10 +242,17 @@ tag_lives os t w h =
     let m = attributes_text (supplies [] (prefixes t.attributes)) in
     let u = ((32 ∷ a) ++ m) ++ (62 ∷ l.text) in
     let g3 = goes_by (InTag os t []) (Text [] Zero) (attributes_text more ++ (62 ∷ l.text)) (w ++ u) e (supply_text w a m (62 ∷ l.text)) g2 in
-    record { text = u; events = e; goes = after_goes (InTag os t []) (InTag os t w) (Text [] Zero) w u e (blanks_here os t w h.blanks) g3; leaves = refl }
+    record {
+      text = u;
+      events = e;
+      goes = after_goes (InTag os t []) (InTag os t w) (Text [] Zero) w u e (blanks_here os t w h.blanks) g3;
+      whole = λ k. whole_more ((32 ∷ a) ++ m) (62 ∷ l.text)
+          (whole_more a m (supply_whole (prefix_of t.name) (prefix_whole t.name (i k).name)) (supplies_whole t.attributes (i k).attributes)) (l.whole k);
+      leaves = refl;
+    }
 
-any_lives : (st : State) → LivesOn st → Lives st
-any_lives st l = record { text = l.text; events = l.events; goes = l.goes }
+any_lives : {K : Type 0} (st : State) → LivesOn K st → Lives K st
+any_lives st l = record { text = l.text; events = l.events; goes = l.goes; whole = l.whole }
 
 plain_longer : (l : List ℕ) → is_plain l ≡ true → is_plain (l ++ (97 ∷ [])) ≡ true
 plain_longer [] h = cc
@@ -221,32 +263,36 @@ longer_name (Plain l) h = plain_longer l h
 longer_name (Qualified p []) h = and_of _ _ h refl
 longer_name (Qualified p (c ∷ l)) h = let q = and_both (is_plain p) (is_plain (c ∷ l)) h in and_of _ _ q.0 (plain_longer (c ∷ l) q.1)
 
-name_lives : (os : List Open) (n : Name) → is_front n ≡ true → Lives (InName os n)
-name_lives os n h =
+longer_whole : (n : Name) → IsWhole (written n) → IsWhole (written (longer n 97))
+longer_whole n h = subst (λ (t : List ℕ). IsWhole t) (sym (written_longer n 97)) (whole_more (written n) (97 ∷ []) h refl)
+
+name_lives : {K : Type 0} (os : List Open) (n : Name) → is_front n ≡ true → (K → AreWhole os) → (K → IsWhole (written n)) → Lives K (InName os n)
+name_lives os n h w i =
     let m = longer n 97 in
     let is = longer_name n h in
-    let l = tag_lives os (record { name = m; attributes = [] }) [] (record { tag = record { name = is; attributes = tt }; blanks = refl }) in
-    before (InName os n) (InName os m) 97 refl (record { text = l.text; events = l.events; goes = bare_goes os m l.text (Text [] Zero) l.events is l.leaves l.goes })
+    let l = tag_lives os (record { name = m; attributes = [] }) [] (record { tag = record { name = is; attributes = tt }; blanks = refl })
+    (λ k. record { above = w k; name = longer_whole n (i k); attributes = tt }) in
+    before (InName os n) (InName os m) 97 refl refl (record { text = l.text; events = l.events; goes = bare_goes os m l.text (Text [] Zero) l.events is l.leaves l.goes; whole = l.whole })
 
-outside_lives : Lives Outside
-outside_lives = before Outside (Markup Before) 60 refl (before (Markup Before) (InName [] (Plain (97 ∷ []))) 97 refl (name_lives [] (Plain (97 ∷ [])) refl))
+outside_lives : {K : Type 0} → Lives K Outside
+outside_lives = before Outside (Markup Before) 60 refl refl (before (Markup Before) (InName [] (Plain (97 ∷ []))) 97 refl refl (name_lives [] (Plain (97 ∷ [])) refl (λ k. tt) (λ k. refl)))
 
-at_lives : (p : Place) → Lives (at p)
-at_lives First = outside_lives
-at_lives Before = outside_lives
-at_lives (Below os) = text_lives os Zero
+at_lives : {K : Type 0} (p : Place) → (K → PlaceWhole p) → Lives K (at p)
+at_lives First w = outside_lives
+at_lives Before w = outside_lives
+at_lives (Below os) w = text_lives os Zero w
 
-close_lives : (p : Place) → Lives (CommentClose p)
-close_lives p = before (CommentClose p) (at p) 62 refl (at_lives p)
+close_lives : {K : Type 0} (p : Place) → (K → PlaceWhole p) → Lives K (CommentClose p)
+close_lives p w = before (CommentClose p) (at p) 62 refl refl (at_lives p w)
 
-comment_lives : (p : Place) → Lives (InComment p)
-comment_lives p = before (InComment p) (CommentDash p) 45 refl (before (CommentDash p) (CommentClose p) 45 refl (close_lives p))
+comment_lives : {K : Type 0} (p : Place) → (K → PlaceWhole p) → Lives K (InComment p)
+comment_lives p w = before (InComment p) (CommentDash p) 45 refl refl (before (CommentDash p) (CommentClose p) 45 refl refl (close_lives p w))
 
-mark_lives : (p : Place) → Lives (Mark p)
-mark_lives p = before (Mark p) (OpenComment p) 45 refl (before (OpenComment p) (InComment p) 45 refl (comment_lives p))
+mark_lives : {K : Type 0} (p : Place) → (K → PlaceWhole p) → Lives K (Mark p)
+mark_lives p w = before (Mark p) (OpenComment p) 45 refl refl (before (OpenComment p) (InComment p) 45 refl refl (comment_lives p w))
 
-instruction_lives : (p : Place) → Lives (InInstruction p)
-instruction_lives p = before (InInstruction p) (InstructionEnd p) 63 refl (before (InstructionEnd p) (at p) 62 refl (at_lives p))
+instruction_lives : {K : Type 0} (p : Place) → (K → PlaceWhole p) → Lives K (InInstruction p)
+instruction_lives p w = before (InInstruction p) (InstructionEnd p) 63 refl refl (before (InstructionEnd p) (at p) 62 refl refl (at_lives p w))
 
 never_xml : (t : Target) → is_target (target_next t 97) ≡ true
 never_xml Unlike = refl
@@ -254,32 +300,38 @@ never_xml X = refl
 never_xml Xm = refl
 never_xml Xml = refl
 
-end_target : (p : Place) (t : Target) → is_target t ≡ true → Lives (InTarget p t)
-end_target p t h =
-    before (InTarget p t) (TargetEnd p) 63 (ap (λ z. on z (To (TargetEnd p) []) Bad) h) (before (TargetEnd p) (at p) 62 refl (at_lives p))
+end_target : {K : Type 0} (p : Place) (t : Target) → (K → PlaceWhole p) → is_target t ≡ true → Lives K (InTarget p t)
+end_target p t w h =
+    before (InTarget p t) (TargetEnd p) 63 refl (ap (λ z. on z (To (TargetEnd p) []) Bad) h) (before (TargetEnd p) (at p) 62 refl refl (at_lives p w))
 
-target_lives : (p : Place) (t : Target) → Lives (InTarget p t)
-target_lives p t = before (InTarget p t) (InTarget p (target_next t 97)) 97 refl (end_target p (target_next t 97) (never_xml t))
+target_lives : {K : Type 0} (p : Place) (t : Target) → (K → PlaceWhole p) → Lives K (InTarget p t)
+target_lives p t w = before (InTarget p t) (InTarget p (target_next t 97)) 97 refl refl (end_target p (target_next t 97) w (never_xml t))
 
-question_lives : (p : Place) → Lives (Question p)
-question_lives First = before (Question First) (InTarget First Unlike) 97 refl (target_lives First Unlike)
-question_lives Before = before (Question Before) (InTarget Before Unlike) 97 refl (target_lives Before Unlike)
-question_lives (Below os) = before (Question (Below os)) (InTarget (Below os) Unlike) 97 refl (target_lives (Below os) Unlike)
+question_lives : {K : Type 0} (p : Place) → (K → PlaceWhole p) → Lives K (Question p)
+question_lives First w = before (Question First) (InTarget First Unlike) 97 refl refl (target_lives First Unlike w)
+question_lives Before w = before (Question Before) (InTarget Before Unlike) 97 refl refl (target_lives Before Unlike w)
+question_lives (Below os) w = before (Question (Below os)) (InTarget (Below os) Unlike) 97 refl refl (target_lives (Below os) Unlike w)
 
-section_lives : (o : Open) (os : List Open) → Lives (InSection o os Zero)
-section_lives o os =
-    before (InSection o os Zero) (InSection o os One) 93 refl (before (InSection o os One) (InSection o os Two) 93 refl
-    (before (InSection o os Two) (Text (o ∷ os) Zero) 62 refl (text_lives (o ∷ os) Zero)))
+section_lives : {K : Type 0} (o : Open) (os : List Open) → (K → AreWhole (o ∷ os)) → Lives K (InSection o os Zero)
+section_lives o os w =
+    before (InSection o os Zero) (InSection o os One) 93 refl refl (before (InSection o os One) (InSection o os Two) 93 refl refl
+    (before (InSection o os Two) (Text (o ∷ os) Zero) 62 refl refl (text_lives (o ∷ os) Zero w)))
 
-any_section_lives : (o : Open) (os : List Open) (n : Brackets) → Lives (InSection o os n)
-any_section_lives o os Zero = section_lives o os
-any_section_lives o os One = before (InSection o os One) (InSection o os Two) 93 refl (before (InSection o os Two) (Text (o ∷ os) Zero) 62 refl (text_lives (o ∷ os) Zero))
-any_section_lives o os Two = before (InSection o os Two) (Text (o ∷ os) Zero) 62 refl (text_lives (o ∷ os) Zero)
+any_section_lives : {K : Type 0} (o : Open) (os : List Open) (n : Brackets) → (K → AreWhole (o ∷ os)) → Lives K (InSection o os n)
+any_section_lives o os Zero w = section_lives o os w
+any_section_lives o os One w = before (InSection o os One) (InSection o os Two) 93 refl refl (before (InSection o os Two) (Text (o ∷ os) Zero) 62 refl refl (text_lives (o ∷ os) Zero w))
+any_section_lives o os Two w = before (InSection o os Two) (Text (o ∷ os) Zero) 62 refl refl (text_lives (o ∷ os) Zero w)
 
-section_word_lives : (o : Open) (os : List Open) (came : List ℕ) (c : ℕ) (left : List ℕ) → Lives (SectionWord o os came c left)
-section_word_lives o os came c left =
-    let l = section_lives o os in
-    record { text = (c ∷ left) ++ l.text; events = l.events; goes = word_goes o os came (c ∷ left) l.text (Text [] Zero) l.events l.goes }
+section_word_lives : {K : Type 0} (o : Open) (os : List Open) (came : List ℕ) (c : ℕ) (left : List ℕ) → codes "CDATA[" ≡ came ++ (c ∷ left) → (K → AreWhole (o ∷ os))
+    → Lives K (SectionWord o os came c left)
+section_word_lives o os came c left h w =
+    let l = section_lives o os w in
+    record {
+      text = (c ∷ left) ++ l.text;
+      events = l.events;
+      goes = word_goes o os came (c ∷ left) l.text (Text [] Zero) l.events l.goes;
+      whole = λ k. whole_more (c ∷ left) l.text (ascii_whole (c ∷ left) (all_later is_ascii came (c ∷ left) (ap (list_all is_ascii) (sym h)))) (l.whole k);
+    }
 
 abbrev pub IsDoneWant : Want → Type 0
 IsDoneWant Done = Unit {0}
@@ -297,11 +349,12 @@ solid_not_done (Spaces w) h = tt
 solid_not_done (Either x w v) h = tt
 
 -- the words go on with this byte
-pub record GoesOn (w : Want) : Type 0 where
+pub record GoesOn (K : Type 0) (w : Want) : Type 0 where
   pub byte : ℕ
   pub next : Want
+  pub ascii : K → is_ascii byte ≡ true
   pub moves : want w byte ≡ Some next
-  pub lives : Lives (declare_state next)
+  pub lives : Lives K (declare_state next)
   pub solid : is_solid w ≡ true → blank byte ≡ false
 
 not_true : (x : Bool) → not x ≡ true → x ≡ false
@@ -312,65 +365,69 @@ or_first : (x y : Bool) → x ≡ true → (x || y) ≡ true
 or_first true y h = refl
 or_first false y h = cc
 
-wait_lives : (w : Want) → (IsDoneWant w → Lives (declare_state w)) → (Not_done w → GoesOn w) → Lives (declare_state w)
+wait_lives : {K : Type 0} (w : Want) → (IsDoneWant w → Lives K (declare_state w)) → (Not_done w → GoesOn K w) → Lives K (declare_state w)
 wait_lives Done f g = f tt
-wait_lives (One_of x y w) f g = let k = g tt in before (Declaring (One_of x y w)) (declare_state k.next) k.byte (ap declare_step k.moves) k.lives
-wait_lives (Space w) f g = let k = g tt in before (Declaring (Space w)) (declare_state k.next) k.byte (ap declare_step k.moves) k.lives
-wait_lives (Spaces w) f g = let k = g tt in before (Declaring (Spaces w)) (declare_state k.next) k.byte (ap declare_step k.moves) k.lives
-wait_lives (Either x w v) f g = let k = g tt in before (Declaring (Either x w v)) (declare_state k.next) k.byte (ap declare_step k.moves) k.lives
+wait_lives (One_of x y w) f g = let k = g tt in before_if (Declaring (One_of x y w)) (declare_state k.next) k.byte k.ascii (ap declare_step k.moves) k.lives
+wait_lives (Space w) f g = let k = g tt in before_if (Declaring (Space w)) (declare_state k.next) k.byte k.ascii (ap declare_step k.moves) k.lives
+wait_lives (Spaces w) f g = let k = g tt in before_if (Declaring (Spaces w)) (declare_state k.next) k.byte k.ascii (ap declare_step k.moves) k.lives
+wait_lives (Either x w v) f g = let k = g tt in before_if (Declaring (Either x w v)) (declare_state k.next) k.byte k.ascii (ap declare_step k.moves) k.lives
 
-done_lives : (w : Want) → IsDoneWant w → Lives (declare_state w)
+done_lives : {K : Type 0} (w : Want) → IsDoneWant w → Lives K (declare_state w)
 done_lives Done h = outside_lives
 done_lives (One_of x y w) h = absurd h
 done_lives (Space w) h = absurd h
 done_lives (Spaces w) h = absurd h
 done_lives (Either x w v) h = absurd h
 
-go_on : (w : Want) → Not_done w → is_good w ≡ true → GoesOn w
-go_on Done n h = absurd n
-go_on (One_of x y w) n h = record {
+go_on : {K : Type 0} (w : Want) → Not_done w → is_good w ≡ true → (K → ascii_words w ≡ true) → GoesOn K w
+go_on Done n h a = absurd n
+go_on (One_of x y w) n h a = record {
   byte = x;
   next = w;
+  ascii = λ k. (and_both (is_ascii x) (is_ascii y) (and_both (is_ascii x && is_ascii y) (ascii_words w) (a k)).0).0;
   moves = ap (λ z. cond z (Some w) None) (or_first (x == x) (x == y) (eqb-same x));
-  lives = wait_lives w (done_lives w) (λ m. go_on w m h);
+  lives = wait_lives w (done_lives w) (λ m. go_on w m h (λ k. (and_both (is_ascii x && is_ascii y) (ascii_words w) (a k)).1));
   solid = λ s. not_true (blank x) s;
 }
-go_on (Space w) n h = record {
+go_on (Space w) n h a = record {
   byte = 32;
   next = w;
+  ascii = λ k. refl;
   moves = refl;
-  lives = wait_lives w (done_lives w) (λ m. go_on w m h);
+  lives = wait_lives w (done_lives w) (λ m. go_on w m h a);
   solid = λ s. let k : false ≡ true = s in cc;
 }
-go_on (Spaces w) n h =
+go_on (Spaces w) n h a =
     let q = and_both (is_solid w) (is_good w) h in
-    let k = go_on w (solid_not_done w q.0) q.1 in
+    let k = go_on w (solid_not_done w q.0) q.1 a in
     record {
       byte = k.byte;
       next = k.next;
+      ascii = k.ascii;
       moves = ap (λ z. cond z (Some (Spaces w)) (want w k.byte)) (k.solid q.0) ∙ k.moves;
       lives = k.lives;
       solid = λ s. let j : false ≡ true = s in cc;
     }
-go_on (Either x w v) n h =
+go_on (Either x w v) n h a =
     let q = and_both (is_good w) (is_good v) h in
     record {
       byte = x;
       next = w;
+      ascii = λ k. (and_both (is_ascii x) (ascii_words w && ascii_words v) (a k)).0;
       moves = ap (λ z. cond z (Some w) (want v x)) (eqb-same x);
-      lives = wait_lives w (done_lives w) (λ m. go_on w m q.0);
+      lives = wait_lives w (done_lives w) (λ m. go_on w m q.0 (λ k. (and_both (ascii_words w) (ascii_words v) (and_both (is_ascii x) (ascii_words w && ascii_words v) (a k)).1).0));
       solid = λ s. not_true (blank x) s;
     }
 
-declare_lives : (w : Want) → is_good w ≡ true → Lives (declare_state w)
-declare_lives w h = wait_lives w (done_lives w) (λ m. go_on w m h)
+declare_lives : {K : Type 0} (w : Want) → is_good w ≡ true → (K → ascii_words w ≡ true) → Lives K (declare_state w)
+declare_lives w h a = wait_lives w (done_lives w) (λ m. go_on w m h a)
 
-declaring_lives : (w : Want) → IsSound (Declaring w) → Lives (Declaring w)
-declaring_lives Done h = absurd h
-declaring_lives (One_of x y w) h = declare_lives (One_of x y w) h
-declaring_lives (Space w) h = declare_lives (Space w) h
-declaring_lives (Spaces w) h = declare_lives (Spaces w) h
-declaring_lives (Either x w v) h = declare_lives (Either x w v) h
+declaring_lives : {K : Type 0} (w : Want) → IsSound (Declaring w) → (K → ascii_words w ≡ true) → Lives K (Declaring w)
+declaring_lives Done h a = absurd h
+declaring_lives (One_of x y w) h a = declare_lives (One_of x y w) h a
+declaring_lives (Space w) h a = declare_lives (Space w) h a
+declaring_lives (Spaces w) h a = declare_lives (Spaces w) h a
+declaring_lives (Either x w v) h a = declare_lives (Either x w v) h a
 
 -- Values.
 not_empty : (ps : List Part) → bytes_eq (parts_value (ps ++ (Byte 120 ∷ []))) [] ≡ false
@@ -391,53 +448,74 @@ stays_kind : (q : Quote) → sort q (kind 120) ≡ Stays
 stays_kind Double = refl
 stays_kind Single = refl
 
+quote_ascii : (q : Quote) → is_ascii (quote_byte q) ≡ true
+quote_ascii Double = refl
+quote_ascii Single = refl
+
 stays_in : (q : Quote) → in_value q 120 ≡ true
 stays_in Double = refl
 stays_in Single = refl
 
-value_lives : (os : List Open) (t : Tag) (a : Attribute) → IsValueFront t a → Lives (InValue os t a)
-value_lives os t a h =
+names_more : (xs : List Attribute) (a : Attribute) → NamesWhole xs → IsWhole (written a.name) → NamesWhole (xs ++ (a ∷ []))
+names_more [] a h i = (i, tt)
+names_more (x ∷ xs) a h i = (h.0, names_more xs a h.1 i)
+
+pub tag_more : (os : List Open) (t : Tag) (a : Attribute) → TagWhole os t → IsWhole (written a.name) → TagWhole os (with_attribute t a)
+tag_more os t a h i = record { above = h.above; name = h.name; attributes = names_more t.attributes a h.attributes i }
+
+value_lives : {K : Type 0} (os : List Open) (t : Tag) (a : Attribute) → IsValueFront t a → (K → TagWhole os t) → (K → IsWhole (written a.name)) → Lives K (InValue os t a)
+value_lives os t a h w i =
     let b = with_part a (Byte 120) in
     let fine : is_fine b ≡ true = fine_name a.name (parts_value (a.parts ++ (Byte 120 ∷ []))) (not_empty a.parts) in
     let front : IsValueFront t b = record { tag = h.tag; lead = h.lead; name = h.name; before = h.before; after = h.after; parts = parts_are a.quote a.parts (Byte 120 ∷ []) h.parts (stays_in a.quote, tt) } in
     let u = with_attribute t b in
-    let l = any_lives (InTag os u []) (tag_lives os u [] (record { tag = record { name = h.tag.name; attributes = all_are t.attributes (b ∷ []) h.tag.attributes (is_attribute t b front fine, tt) }; blanks = refl })) in
-    before (InValue os t a) (InValue os t b) 120 (ap (value_step os t a 120) (stays_kind a.quote))
-    (record { text = quote_byte a.quote ∷ l.text; events = l.events; goes = value_ends os t b l.text (Text [] Zero) l.events fine l.goes })
+    let l = any_lives (InTag os u []) (tag_lives os u [] (record { tag = record { name = h.tag.name; attributes = all_are t.attributes (b ∷ []) h.tag.attributes (is_attribute t b front fine, tt) }; blanks = refl }) (λ k. tag_more os t b (w k) (i k))) in
+    before (InValue os t a) (InValue os t b) 120 refl (ap (value_step os t a 120) (stays_kind a.quote))
+    (record {
+      text = quote_byte a.quote ∷ l.text;
+      events = l.events;
+      goes = value_ends os t b l.text (Text [] Zero) l.events fine l.goes;
+      whole = λ k. ascii_first (quote_byte a.quote) l.text (quote_ascii a.quote) (l.whole k);
+    })
 
-after_lives : (os : List Open) (t : Tag) (w : List ℕ) (n : Name) (x y : List ℕ) → IsEqualsFront t w n x y → Lives (AfterEquals os t w n x y)
-after_lives os t w n x y h =
+after_lives : {K : Type 0} (os : List Open) (t : Tag) (w : List ℕ) (n : Name) (x y : List ℕ) → IsEqualsFront t w n x y → (K → TagWhole os t) → (K → IsWhole (written n)) → Lives K (AfterEquals os t w n x y)
+after_lives os t w n x y h u i =
     let a : Attribute = record { lead = w; name = n; before = x; after = y; quote = Double; parts = [] } in
-    before (AfterEquals os t w n x y) (InValue os t a) 34 refl
-    (value_lives os t a (record { tag = h.tag; lead = h.lead; name = h.name; before = h.before; after = h.after; parts = tt }))
+    before (AfterEquals os t w n x y) (InValue os t a) 34 refl refl
+    (value_lives os t a (record { tag = h.tag; lead = h.lead; name = h.name; before = h.before; after = h.after; parts = tt }) u i)
 
-equals_lives : (os : List Open) (t : Tag) (w : List ℕ) (n : Name) (x : List ℕ) → IsEqualsFront t w n x [] → Lives (BeforeEquals os t w n x)
-equals_lives os t w n x h = before (BeforeEquals os t w n x) (AfterEquals os t w n x []) 61 refl (after_lives os t w n x [] h)
+equals_lives : {K : Type 0} (os : List Open) (t : Tag) (w : List ℕ) (n : Name) (x : List ℕ) → IsEqualsFront t w n x [] → (K → TagWhole os t) → (K → IsWhole (written n)) → Lives K (BeforeEquals os t w n x)
+equals_lives os t w n x h u i = before (BeforeEquals os t w n x) (AfterEquals os t w n x []) 61 refl refl (after_lives os t w n x [] h u i)
 
-attribute_lives : (os : List Open) (t : Tag) (w : List ℕ) (n : Name) → IsNameFront t w n → Lives (AtName os t w n)
-attribute_lives os t w n h =
+attribute_lives : {K : Type 0} (os : List Open) (t : Tag) (w : List ℕ) (n : Name) → IsNameFront t w n → (K → TagWhole os t) → (K → IsWhole (written n)) → Lives K (AtName os t w n)
+attribute_lives os t w n h u i =
     let m = longer n 97 in
     let is = longer_name n h.name in
-    let l = after_lives os t w m [] [] (record { tag = h.tag; lead = h.lead; name = is; before = refl; after = refl }) in
-    before (AtName os t w n) (AtName os t w m) 97 refl
-    (record { text = 61 ∷ l.text; events = l.events; goes = equals_go os t w m [] l.text (Text [] Zero) l.events is refl l.goes })
+    let l = after_lives os t w m [] [] (record { tag = h.tag; lead = h.lead; name = is; before = refl; after = refl }) u (λ k. longer_whole n (i k)) in
+    before (AtName os t w n) (AtName os t w m) 97 refl refl
+    (record { text = 61 ∷ l.text; events = l.events; goes = equals_go os t w m [] l.text (Text [] Zero) l.events is refl l.goes; whole = l.whole })
 
-empty_lives : (os : List Open) (t : Tag) (w ns : List ℕ) → Lives (EmptyTag os t w ns)
-empty_lives os t w ns =
-    let l = text_lives os Zero in
+empty_lives : {K : Type 0} (os : List Open) (t : Tag) (w ns : List ℕ) → (K → AreWhole os) → Lives K (EmptyTag os t w ns)
+empty_lives os t w ns u =
+    let l = text_lives os Zero u in
     let e = Start (length os + 1) ns (local_of t.name) ∷ End (length os + 1) ∷ [] in
-    record { text = 62 ∷ l.text; events = e ++ l.events; goes = goes_cons (EmptyTag os t w ns) (Text os Zero) (Text [] Zero) 62 l.text e l.events refl l.goes }
+    record { text = 62 ∷ l.text; events = e ++ l.events; goes = goes_cons (EmptyTag os t w ns) (Text os Zero) (Text [] Zero) 62 l.text e l.events refl l.goes; whole = l.whole }
 
 -- End tags.
-end_lives : (o : Open) (os : List Open) (w : List ℕ) → Lives (EndBlanks o os w)
-end_lives o os w =
-    let l = text_lives os Zero in
-    record { text = 62 ∷ l.text; events = End (length os + 1) ∷ l.events; goes = end_blanks_go o os w [] l.text (Text [] Zero) l.events refl l.goes }
+end_lives : {K : Type 0} (o : Open) (os : List Open) (w : List ℕ) → (K → AreWhole os) → Lives K (EndBlanks o os w)
+end_lives o os w u =
+    let l = text_lives os Zero u in
+    record { text = 62 ∷ l.text; events = End (length os + 1) ∷ l.events; goes = end_blanks_go o os w [] l.text (Text [] Zero) l.events refl l.goes; whole = l.whole }
 
-in_end_lives : (o : Open) (os : List Open) (came : List ℕ) (c : ℕ) (left : List ℕ) → Lives (InEnd o os came c left)
-in_end_lives o os came c left =
-    let l = end_lives o os [] in
-    record { text = (c ∷ left) ++ l.text; events = l.events; goes = left_goes o os came (c ∷ left) l.text (Text [] Zero) l.events l.goes }
+in_end_lives : {K : Type 0} (o : Open) (os : List Open) (came : List ℕ) (c : ℕ) (left : List ℕ) → (K → AreWhole os) → (K → IsWhole (c ∷ left)) → Lives K (InEnd o os came c left)
+in_end_lives o os came c left u i =
+    let l = end_lives o os [] u in
+    record {
+      text = (c ∷ left) ++ l.text;
+      events = l.events;
+      goes = left_goes o os came (c ∷ left) l.text (Text [] Zero) l.events l.goes;
+      whole = λ k. whole_more (c ∷ left) l.text (i k) (l.whole k);
+    }
 
 -- References.
 -- a front of a reference goes on to a whole one
@@ -478,7 +556,7 @@ begin_completes b r true e h =
     let k = finishes r h in
     subst (λ (z : ℕ). Completes (z ∷ r)) (sym (eqb-true b 35 e)) (record { first = k.first; rest = k.rest; value = k.means; steps = number_steps r k.first k.rest k.means k.is })
 
-stand_completes : (r : List ℕ) → may_stand r ≡ true → Completes r
+pub stand_completes : (r : List ℕ) → may_stand r ≡ true → Completes r
 stand_completes [] h = cc
 stand_completes (b ∷ r) h = begin_completes b r (b == 35) refl h
 
@@ -486,18 +564,24 @@ completes : (r : List ℕ) → MayStand r → Completes r
 completes r (inl e) = subst (λ (t : List ℕ). Completes t) (sym e) (record { first = 108; rest = 116 ∷ 59 ∷ []; value = 60 ∷ []; steps = (refl, refl, (refl, refl, refl)) })
 completes r (inr h) = stand_completes r h
 
-reference_lives : (o : Open) (os : List Open) (r : List ℕ) → MayStand r → Lives (InReference o os r)
-reference_lives o os r h =
+completes_ascii : (r : List ℕ) (k : Completes r) → list_all is_ascii (k.first ∷ k.rest) ≡ true
+completes_ascii r k =
+    all_later is_ascii r (k.first ∷ k.rest) (reference_ascii (r ++ (k.first ∷ k.rest)) k.value (steps_stand k.value r k.first k.rest k.steps))
+
+reference_lives : {K : Type 0} (o : Open) (os : List Open) (r : List ℕ) → MayStand r → (K → AreWhole (o ∷ os)) → Lives K (InReference o os r)
+reference_lives o os r h w =
     let k = completes r h in
-    let l = text_lives (o ∷ os) Zero in
+    let l = text_lives (o ∷ os) Zero w in
     record {
       text = k.first ∷ (k.rest ++ l.text);
       events = chars k.value ++ l.events;
       goes = steps_go (InReference o os) (refers_text o os) (text_references o os) k.value r k.first k.rest l.text (Text (o ∷ os) Zero) (Text [] Zero) (chars k.value) l.events k.steps refl l.goes;
+      whole = λ j. whole_more (k.first ∷ k.rest) l.text (ascii_whole (k.first ∷ k.rest) (completes_ascii r k)) (l.whole j);
     }
 
-value_reference_lives : (os : List Open) (t : Tag) (a : Attribute) (r : List ℕ) → IsValueFront t a → MayStand r → Lives (ValueReference os t a r)
-value_reference_lives os t a r h i =
+value_reference_lives : {K : Type 0} (os : List Open) (t : Tag) (a : Attribute) (r : List ℕ) → IsValueFront t a → MayStand r → (K → TagWhole os t) → (K → IsWhole (written a.name))
+    → Lives K (ValueReference os t a r)
+value_reference_lives os t a r h i w j =
     let k = completes r i in
     let p = Reference (r ++ (k.first ∷ k.rest)) k.value in
     let b = with_part a p in
@@ -509,46 +593,61 @@ value_reference_lives os t a r h i =
       after = h.after;
       parts = parts_are a.quote a.parts (p ∷ []) h.parts (steps_stand k.value r k.first k.rest k.steps, tt);
     } in
-    let l = value_lives os t b front in
+    let l = value_lives os t b front w j in
     record {
       text = k.first ∷ (k.rest ++ l.text);
       events = l.events;
       goes = steps_go (ValueReference os t a) (refers_in os t a) (value_references os t a) k.value r k.first k.rest l.text (InValue os t b) (Text [] Zero) [] l.events k.steps refl l.goes;
+      whole = λ j. whole_more (k.first ∷ k.rest) l.text (ascii_whole (k.first ∷ k.rest) (completes_ascii r k)) (l.whole j);
     }
 
-pub lives : (st : State) → IsSound st → Lives st
-lives Begin h = before Begin Outside 32 refl outside_lives
-lives MarkSecond h = before MarkSecond MarkThird 187 refl (before MarkThird Opening 191 refl (before Opening Outside 32 refl outside_lives))
-lives MarkThird h = before MarkThird Opening 191 refl (before Opening Outside 32 refl outside_lives)
-lives Opening h = before Opening Outside 32 refl outside_lives
-lives DeclareX h = before DeclareX (InTarget First Unlike) 97 refl (target_lives First Unlike)
-lives DeclareXm h = before DeclareXm (InTarget First Unlike) 97 refl (target_lives First Unlike)
-lives DeclareXml h = before DeclareXml (InTarget First Unlike) 97 refl (target_lives First Unlike)
-lives (Declaring w) h = declaring_lives w h
-lives Outside h = outside_lives
-lives (Text os n) h = text_lives os n
-lives (Return o os) h = before (Return o os) (Markup (Below (o ∷ os))) 60 refl (before (Markup (Below (o ∷ os))) (Mark (Below (o ∷ os))) 33 refl (mark_lives (Below (o ∷ os))))
-lives (Markup p) h = before (Markup p) (Mark p) 33 refl (mark_lives p)
-lives (Mark p) h = mark_lives p
-lives (OpenComment p) h = before (OpenComment p) (InComment p) 45 refl (comment_lives p)
-lives (InComment p) h = comment_lives p
-lives (CommentDash p) h = before (CommentDash p) (CommentClose p) 45 refl (close_lives p)
-lives (CommentClose p) h = close_lives p
-lives (Question p) h = question_lives p
-lives (InTarget p t) h = target_lives p t
-lives (TargetEnd p) h = before (TargetEnd p) (at p) 62 refl (at_lives p)
-lives (InInstruction p) h = instruction_lives p
-lives (InstructionEnd p) h = before (InstructionEnd p) (at p) 62 refl (at_lives p)
-lives (SectionWord o os came c left) h = section_word_lives o os came c left
-lives (InSection o os n) h = any_section_lives o os n
-lives (InReference o os r) h = reference_lives o os r h
-lives (InName os n) h = name_lives os n h
-lives (InTag os t w) h = any_lives (InTag os t w) (tag_lives os t w h)
-lives (EmptyTag os t w ns) h = empty_lives os t w ns
-lives (AtName os t w n) h = attribute_lives os t w n h
-lives (BeforeEquals os t w n x) h = equals_lives os t w n x h
-lives (AfterEquals os t w n x y) h = after_lives os t w n x y h
-lives (InValue os t a) h = value_lives os t a h
-lives (ValueReference os t a r) h = value_reference_lives os t a r h.0 h.1
-lives (InEnd o os came c left) h = in_end_lives o os came c left
-lives (EndBlanks o os w) h = end_lives o os w
+-- The bytes of a byte order mark are no characters of their own.
+not_special : Whole ≡ Special → ⊥
+not_special h = cc
+
+not_owes : {low high n : ℕ} → Whole ≡ Owes low high n → ⊥
+not_owes h = cc
+
+mark_third_lives : {K : Type 0} → (K → ⊥) → Lives K MarkThird
+mark_third_lives never = before_if MarkThird Opening 191 (λ k. absurd (never k)) refl (before Opening Outside 32 refl refl outside_lives)
+
+mark_second_lives : {K : Type 0} → (K → ⊥) → Lives K MarkSecond
+mark_second_lives never = before_if MarkSecond MarkThird 187 (λ k. absurd (never k)) refl (mark_third_lives never)
+
+pub lives : {K : Type 0} (st : State) → IsSound st → (K → Kept st Whole) → Lives K st
+lives Begin h w = before Begin Outside 32 refl refl outside_lives
+lives MarkSecond h w = mark_second_lives (λ k. absurd (not_special (w k)))
+lives MarkThird h w = mark_third_lives (λ k. absurd (not_owes (w k)))
+lives Opening h w = before Opening Outside 32 refl refl outside_lives
+lives DeclareX h w = before DeclareX (InTarget First Unlike) 97 refl refl (target_lives First Unlike (λ k. tt))
+lives DeclareXm h w = before DeclareXm (InTarget First Unlike) 97 refl refl (target_lives First Unlike (λ k. tt))
+lives DeclareXml h w = before DeclareXml (InTarget First Unlike) 97 refl refl (target_lives First Unlike (λ k. tt))
+lives (Declaring v) h w = declaring_lives v h (λ k. (w k).0)
+lives Outside h w = outside_lives
+lives (Text [] n) h w = text_lives [] n (λ k. tt)
+lives (Text (o ∷ os) n) h w = text_lives (o ∷ os) n w
+lives (Return o os) h w = before (Return o os) (Markup (Below (o ∷ os))) 60 refl refl (before (Markup (Below (o ∷ os))) (Mark (Below (o ∷ os))) 33 refl refl (mark_lives (Below (o ∷ os)) (λ k. (w k).0)))
+lives (Markup p) h w = before (Markup p) (Mark p) 33 refl refl (mark_lives p (λ k. (w k).0))
+lives (Mark p) h w = mark_lives p (λ k. (w k).0)
+lives (OpenComment p) h w = before (OpenComment p) (InComment p) 45 refl refl (comment_lives p (λ k. (w k).0))
+lives (InComment p) h w = comment_lives p w
+lives (CommentDash p) h w = before (CommentDash p) (CommentClose p) 45 refl refl (close_lives p (λ k. (w k).0))
+lives (CommentClose p) h w = close_lives p (λ k. (w k).0)
+lives (Question p) h w = question_lives p (λ k. (w k).0)
+lives (InTarget p t) h w = target_lives p t w
+lives (TargetEnd p) h w = before (TargetEnd p) (at p) 62 refl refl (at_lives p (λ k. (w k).0))
+lives (InInstruction p) h w = instruction_lives p w
+lives (InstructionEnd p) h w = before (InstructionEnd p) (at p) 62 refl refl (at_lives p (λ k. (w k).0))
+lives (SectionWord o os came c left) h w = section_word_lives o os came c left h (λ k. (w k).0)
+lives (InSection o os n) h w = any_section_lives o os n w
+lives (InReference o os r) h w = reference_lives o os r h (λ k. (w k).0)
+lives (InName os n) h w = name_lives os n h (λ k. (w k).0) (λ k. (w k).1)
+lives (InTag os t v) h w = any_lives (InTag os t v) (tag_lives os t v h (λ k. (w k).0))
+lives (EmptyTag os t v ns) h w = empty_lives os t v ns (λ k. (w k).0)
+lives (AtName os t v n) h w = attribute_lives os t v n h (λ k. (w k).0) (λ k. (w k).1)
+lives (BeforeEquals os t v n x) h w = equals_lives os t v n x h (λ k. (w k).0) (λ k. (w k).1)
+lives (AfterEquals os t v n x y) h w = after_lives os t v n x y h (λ k. (w k).0) (λ k. (w k).1)
+lives (InValue os t a) h w = value_lives os t a h (λ k. (w k).0) (λ k. (w k).1)
+lives (ValueReference os t a r) h w = value_reference_lives os t a r h.0 h.1 (λ k. (w k).0) (λ k. (w k).1)
+lives (InEnd o os came c left) h w = in_end_lives o os came c left (λ k. (w k).0.1) (λ k. rest_whole o.name came (c ∷ left) Whole h (w k).0.0 (w k).1)
+lives (EndBlanks o os v) h w = end_lives o os v (λ k. (w k).0)

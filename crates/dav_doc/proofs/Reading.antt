@@ -1,6 +1,7 @@
 -- The machine of UTF-8 takes just the texts of characters.
 use Rattle.std.proofs.Common.{◌≡◌, ℕ, zero, suc, ◌≤◌, Bool, true, false, List, [], ◌∷◌, ◌++◌, refl, ap, sym, ◌∙◌, arith, subst, Option, Some, None}
-use Rattle.std.specs.Prelude.{◌==◌, cond}
+use Rattle.std.specs.Prelude.{◌==◌, nat_le, cond}
+use Rattle.std.specs.List.{list_all}
 use Rattle.std.proofs.lemmas.Bool.{le-leb}
 use Rattle.dav_doc.specs.Characters.{Owed, Whole, Owes, Special, within, is_ascii, lead, owed, Tail, whole, tail_byte, special_byte, special_last, Characters, no_more, ascii, wide, owed_after, on_owed, owed_by}
 use Rattle.dav_doc.proofs.KindFacts.{and_of}
@@ -95,15 +96,15 @@ taken (b ∷ s) o h = run_by o b s (owed_after o b) refl h (λ new k. taken s ne
 pub characters_taken : (s : List ℕ) → owed_by s Whole ≡ Some Whole → Characters s
 characters_taken s h = taken s Whole h
 
--- Each character that is owed something goes on.
+-- Each character that is owed something goes on, with bytes past ASCII.
 abbrev pub Fair : Owed → Type 0
 Fair Whole = Unit {0}
-Fair (Owes low high n) = low ≤ high
+Fair (Owes low high n) = (128 ≤ low) × (low ≤ high)
 Fair Special = Unit {0}
 
 fair_owed : (n : ℕ) → Fair (owed n)
 fair_owed zero = tt
-fair_owed (suc n) = omega arith
+fair_owed (suc n) = (omega arith, omega arith)
 
 fair_some : (x : Bool) (o : Owed) (other : Option Owed) → Fair o → ((new : Owed) → other ≡ Some new → Fair new) → (new : Owed) → cond x (Some o) other ≡ Some new → Fair new
 fair_some true o other f g new h = let e : o ≡ new = cc in subst (λ (z : Owed). Fair z) e f
@@ -114,46 +115,56 @@ fair_none new h = cc
 
 fair_lead : (b : ℕ) (new : Owed) → lead b ≡ Some new → Fair new
 fair_lead b =
-    fair_some (within 194 223 b) (Owes 128 191 0) _ (omega arith) (
-    fair_some (b == 224) (Owes 160 191 1) _ (omega arith) (
-    fair_some (b == 237) (Owes 128 159 1) _ (omega arith) (
+    fair_some (within 194 223 b) (Owes 128 191 0) _ (omega arith, omega arith) (
+    fair_some (b == 224) (Owes 160 191 1) _ (omega arith, omega arith) (
+    fair_some (b == 237) (Owes 128 159 1) _ (omega arith, omega arith) (
     fair_some (b == 239) Special _ tt (
-    fair_some (within 225 238 b) (Owes 128 191 1) _ (omega arith) (
-    fair_some (b == 240) (Owes 144 191 2) _ (omega arith) (
-    fair_some (within 241 243 b) (Owes 128 191 2) _ (omega arith) (
-    fair_some (b == 244) (Owes 128 143 2) None (omega arith) fair_none)))))))
+    fair_some (within 225 238 b) (Owes 128 191 1) _ (omega arith, omega arith) (
+    fair_some (b == 240) (Owes 144 191 2) _ (omega arith, omega arith) (
+    fair_some (within 241 243 b) (Owes 128 191 2) _ (omega arith, omega arith) (
+    fair_some (b == 244) (Owes 128 143 2) None (omega arith, omega arith) fair_none)))))))
 
-fair_after : (o : Owed) (b : ℕ) (new : Owed) → owed_after o b ≡ Some new → Fair new
+pub fair_after : (o : Owed) (b : ℕ) (new : Owed) → owed_after o b ≡ Some new → Fair new
 fair_after Whole b = fair_some (is_ascii b) Whole (lead b) tt (fair_lead b)
 fair_after (Owes low high n) b = fair_some (within low high b) (owed n) None (fair_owed n) fair_none
-fair_after Special b = fair_some (within 128 190 b) (Owes 128 191 0) _ (omega arith) (fair_some (b == 191) (Owes 128 189 0) None (omega arith) fair_none)
+fair_after Special b = fair_some (within 128 190 b) (Owes 128 191 0) _ (omega arith, omega arith) (fair_some (b == 191) (Owes 128 189 0) None (omega arith, omega arith) fair_none)
 
 fair_by : (x : Option Owed) (s : List ℕ) (new : Owed) → ((o : Owed) → x ≡ Some o → Fair o) → ((o : Owed) → Fair o → owed_by s o ≡ Some new → Fair new) → on_owed x (owed_by s) ≡ Some new → Fair new
 fair_by None s new f g h = cc
 fair_by (Some o) s new f g h = g o (f o refl) h
 
-fair_run : (s : List ℕ) (o new : Owed) → Fair o → owed_by s o ≡ Some new → Fair new
+pub fair_run : (s : List ℕ) (o new : Owed) → Fair o → owed_by s o ≡ Some new → Fair new
 fair_run [] o new f h = let e : o ≡ new = cc in subst (λ (z : Owed). Fair z) e f
 fair_run (b ∷ s) o new f h = fair_by (owed_after o b) s new (fair_after o b) (λ a g k. fair_run s a new g k) h
 
+-- a byte past ASCII
+abbrev pub is_wide : ℕ → Bool
+is_wide b = nat_le 128 b
+
+-- what is owed can come, in bytes past ASCII
 pub record GoesWhole (o : Owed) : Type 0 where
   pub text : List ℕ
   pub goes : owed_by text o ≡ Some Whole
+  pub wide : list_all is_wide text ≡ true
 
 within_low : (low high : ℕ) → low ≤ high → within low high low ≡ true
 within_low low high h = and_of _ _ (le-leb low low (omega arith)) (le-leb low high h)
 
-owes_whole : (low high n : ℕ) → low ≤ high → GoesWhole (owed n) → GoesWhole (Owes low high n)
-owes_whole low high n h k = record { text = low ∷ k.text; goes = ap (λ x. on_owed (cond x (Some (owed n)) None) (owed_by k.text)) (within_low low high h) ∙ k.goes }
+owes_whole : (low high n : ℕ) → 128 ≤ low → low ≤ high → GoesWhole (owed n) → GoesWhole (Owes low high n)
+owes_whole low high n w h k = record {
+  text = low ∷ k.text;
+  goes = ap (λ x. on_owed (cond x (Some (owed n)) None) (owed_by k.text)) (within_low low high h) ∙ k.goes;
+  wide = and_of _ _ (le-leb 128 low w) k.wide;
+}
 
 owed_whole : (n : ℕ) → GoesWhole (owed n)
-owed_whole zero = record { text = []; goes = refl }
-owed_whole (suc n) = owes_whole 128 191 n (omega arith) (owed_whole n)
+owed_whole zero = record { text = []; goes = refl; wide = refl }
+owed_whole (suc n) = owes_whole 128 191 n (omega arith) (omega arith) (owed_whole n)
 
-fair_whole : (o : Owed) → Fair o → GoesWhole o
-fair_whole Whole h = record { text = []; goes = refl }
-fair_whole (Owes low high n) h = owes_whole low high n h (owed_whole n)
-fair_whole Special h = record { text = 128 ∷ 128 ∷ []; goes = refl }
+pub fair_whole : (o : Owed) → Fair o → GoesWhole o
+fair_whole Whole h = record { text = []; goes = refl; wide = refl }
+fair_whole (Owes low high n) h = owes_whole low high n h.0 h.1 (owed_whole n)
+fair_whole Special h = record { text = 128 ∷ 128 ∷ []; goes = refl; wide = refl }
 
 pub characters_alive : (s : List ℕ) (o : Owed) → owed_by s Whole ≡ Some o → (t : List ℕ) × Characters (s ++ t)
 characters_alive s o h =

@@ -695,7 +695,7 @@ close_leads p b true e = (
 )
 
 -- Names.
-written_longer : (n : Name) (b : ℕ) → written (longer n b) ≡ written n ++ (b ∷ [])
+pub written_longer : (n : Name) (b : ℕ) → written (longer n b) ≡ written n ++ (b ∷ [])
 written_longer (Plain l) b = refl
 written_longer (Qualified p l) b = sym (append_assoc p (58 ∷ l) (b ∷ []))
 

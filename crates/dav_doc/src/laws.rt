@@ -16,6 +16,11 @@ pub fn complete()
     ensures { (tree : Forest) (s : List ℕ) → Spells tree s → run s Begin ≡ Some (record { state = Text [] Zero; events = events 1 tree }) }
 {}
 
+/// A text spells at most one tree.
+pub fn one_tree()
+    ensures { (s : List ℕ) (a b : Forest) → Spells a s → Spells b s → a ≡ b }
+{}
+
 /// Where a byte of the text is bad to the machine, no continuation of the text up to and with that byte spells a document.
 pub fn bad()
     ensures { (s : List ℕ) → run s Begin ≡ None → (t : List ℕ) (tree : Forest) → Spells tree (s ++ t) → ⊥ }
@@ -45,14 +50,17 @@ pub fn characters_go_on()
     ensures alive { (s : List ℕ) (o : Owed) → owed_by s Whole ≡ Some o → (t : List ℕ) × Characters (s ++ t) }
 {}
 
-/// The two machines side by side: they take whole just the documents, with their events; and where a byte is bad to either, no
-/// continuation is a document.
+/// The two machines side by side: they take whole just the documents, with their events. Where a byte is bad to either, no
+/// continuation is a document; where none is bad to either, some continuation is. So the first byte that is bad to one of them is
+/// the last byte of the shortest prefix that no continuation makes a document.
 pub fn documents()
     ensures sound { (s : List ℕ) (e : List Event) → owed_by s Whole ≡ Some Whole → run s Begin ≡ Some (record { state = Text [] Zero; events = e })
         → (tree : Forest) × IsDocument tree s × (e ≡ events 1 tree) }
     ensures complete { (tree : Forest) (s : List ℕ) → IsDocument tree s
         → (owed_by s Whole ≡ Some Whole) × (run s Begin ≡ Some (record { state = Text [] Zero; events = events 1 tree })) }
     ensures bad { (s : List ℕ) → (owed_by s Whole ≡ None) ⊎ (run s Begin ≡ None) → (t : List ℕ) (tree : Forest) → IsDocument tree (s ++ t) → ⊥ }
+    ensures alive { (s : List ℕ) (r : Ran) (o : Owed) → run s Begin ≡ Some r → owed_by s Whole ≡ Some o
+        → (t : List ℕ) × (tree : Forest) × IsDocument tree (s ++ t) }
 {}
 
 /// Small documents and their events.

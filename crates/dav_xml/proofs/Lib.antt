@@ -1,4 +1,10 @@
 pub mod StackLemmas
 pub mod ReadLemmas
+pub mod StepLemmas
+pub mod TagStepLemmas
 pub mod TakeLemmas
+pub mod TurnLemmas
 pub mod OverLemmas
+pub mod FeedLemmas
+pub mod ScanLemmas
+pub mod LawLemmas

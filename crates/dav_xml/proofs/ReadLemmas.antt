@@ -1,10 +1,10 @@
 -- The reading of a text as the two machines.
-use Rattle.std.proofs.Common.{◌≡◌, ℕ, Bool, List, [], ◌∷◌, ◌++◌, refl, ap, sym, ◌∙◌, append_assoc, Option, Some, None, inl, inr}
+use Rattle.std.proofs.Common.{◌≡◌, ℕ, List, [], ◌∷◌, ◌++◌, refl, ap, sym, ◌∙◌, append_assoc, Option, Some, None, inl, inr}
 use Rattle.std.specs.Prelude.{◌⊎◌}
 use Rattle.std.proofs.lemmas.List.{append-nil}
-use Rattle.dav_doc.specs.Characters.{Owed, Whole, owed_after, owed_by, on_owed}
+use Rattle.dav_doc.specs.Characters.{Owed, owed_after, owed_by, on_owed}
 use Rattle.dav_doc.specs.Document.{Event}
-use Rattle.dav_doc.specs.Machine.{State, Begin, Move, Bad, To, step, run, Ran, gives, move_on}
+use Rattle.dav_doc.specs.Machine.{Move, Bad, To, step, run, gives, move_on}
 use Rattle.dav_text.specs.declared.which.Which.{Which}
 use Rattle.dav_xml.specs.Reading.{begins, attributes_of, limit_by, size_by, Stand, begin, Verdict, Refused, Passes, Goes, goes_by, judged, next, Reading, behind, on_verdict, reads}
 

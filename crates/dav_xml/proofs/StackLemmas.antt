@@ -1,10 +1,9 @@
 -- The open elements of the code as those of the machine.
-use Rattle.std.proofs.Common.{◌≡◌, ℕ, ◌+◌, List, [], ◌∷◌, ◌++◌, length, fold, refl, ap, sym, ◌∙◌, arith}
+use Rattle.std.proofs.Common.{◌≡◌, ◌+◌, List, [], ◌∷◌, ◌++◌, length, fold, refl, ap, sym, ◌∙◌, arith}
 use Rattle.std.proofs.lemmas.List.Sums.{fold-append}
 use Rattle.dav_doc.specs.Machine as machine
 use Rattle.dav_doc.specs.Machine.{scope_of}
-use Rattle.dav_markup.specs.Name.{name_in}
-use Rattle.dav_markup.specs.Scope.{bindings_in, below, scope_in}
+use Rattle.dav_markup.specs.Scope.{below, scope_in}
 use Rattle.dav_markup.specs.declared.scope.Open.{Open}
 use Rattle.dav_xml.specs.Stands.{opened_by, stack_of}
 

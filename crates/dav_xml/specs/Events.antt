@@ -1,5 +1,5 @@
 -- What a scanner lends, as events of the document.
-use Rattle.std.specs.Prelude.{ℕ, Bool, true, false, List, [], ◌∷◌}
+use Rattle.std.specs.Prelude.{Bool, true, false, List, [], ◌∷◌}
 use Rattle.dav_doc.specs.Document as document
 use Rattle.dav_doc.specs.Machine.{chars}
 use Rattle.dav_markup.specs.Few.{few_in}

@@ -1,5 +1,5 @@
 -- Parts of the steps in start tags.
-use Rattle.std.specs.Prelude.{◌≡◌, ℕ, List, [], ◌∷◌, Option, Some, None, Result, Ok, Err}
+use Rattle.std.specs.Prelude.{◌≡◌, ℕ, List, [], Option, Some, None, Result, Ok, Err}
 use Rattle.dav_doc.specs.Document as document
 use Rattle.dav_doc.specs.Machine as machine
 use Rattle.dav_doc.specs.Machine.{State, step, on, opened, slashed, scope_of, with_attribute}
@@ -12,7 +12,9 @@ use Rattle.dav_xml.specs.declared.position.Position.{Position}
 use Rattle.dav_xml.specs.declared.position.Value.{Value}
 use Rattle.dav_xml.specs.declared.step.Step.{Step}
 use Rattle.dav_xml.specs.Moves.{Moves, Steps}
-use Rattle.dav_xml.specs.Reading.{attributes_of}
+use Rattle.dav_text.specs.declared.which.Which.{Which}
+use Rattle.dav_xml.specs.Reading.{attributes_of, limit_by}
+use Rattle.dav_xml.specs.Turn.{begun_by, attributes_by}
 use Rattle.dav_xml.specs.Stands.{IsValue}
 use Rattle.std.specs.Prelude.{length}
 
@@ -31,9 +33,16 @@ abbrev pub Ended : Value → Option Step → Type 0
 Ended v s = (os : List machine.Open) (st : State) (b : ℕ) (t : document.Tag) (a : Attribute) → IsValue v t a
     → step st b ≡ on (is_fine a) (machine.To (machine.InTag os (with_attribute t a) []) []) machine.Bad → Moves s os st b
 
+-- some step is the machine's move, wherever the position stands for a state, and passes that limit
+pub record IsLimited (p : Position) (os : List machine.Open) (depth size b : ℕ) (which : Which) : Type 0 where
+  pub step : Step
+  pub moves : Steps p (Some step) os b
+  pub limit : Some which ≡ limit_by (begun_by step depth) (attributes_by step) size
+
 -- what the code answers at a byte
-abbrev pub StepAt : Position → List machine.Open → ℕ → ℕ → Result Step XmlFault → Type 0
-StepAt p os at b (Ok s) = Steps p (Some s) os b
-StepAt p os at b (Err (faults.Bad place)) = (place ≡ at) × Steps p None os b
-StepAt p os at b (Err faults.Memory) = Unit {0}
-StepAt p os at b (Err fault) = ⊥
+abbrev pub StepAt : Position → List machine.Open → ℕ → ℕ → ℕ → ℕ → Result Step XmlFault → Type 0
+StepAt p os at depth size b (Ok s) = Steps p (Some s) os b × (None ≡ limit_by (begun_by s depth) (attributes_by s) size)
+StepAt p os at depth size b (Err (faults.Bad place)) = (place ≡ at) × Steps p None os b
+StepAt p os at depth size b (Err (faults.Limit which)) = IsLimited p os depth size b which
+StepAt p os at depth size b (Err faults.Memory) = Unit {0}
+StepAt p os at depth size b (Err faults.Cut) = ⊥

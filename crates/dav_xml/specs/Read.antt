@@ -1,5 +1,5 @@
 -- What a scanner has read, and where it stops.
-use Rattle.std.specs.Prelude.{◌≡◌, ℕ, ◌+◌, ◌≤◌, ◌⊎◌, Bool, true, false, List, [], ◌∷◌, ◌++◌, length, take, Option, Some, None, Result, Ok, Err}
+use Rattle.std.specs.Prelude.{◌≡◌, ℕ, ◌≤◌, false, List, ◌∷◌, ◌++◌, length, take, Some, None}
 use Rattle.dav_doc.specs.Document as document
 use Rattle.dav_doc.specs.Machine.{State}
 use Rattle.dav_markup.specs.Owing.{owed_in}
@@ -8,7 +8,7 @@ use Rattle.dav_xml.specs.declared.fault.XmlFault.TheVariants as faults
 use Rattle.dav_xml.specs.declared.scan.Fed.{Fed}
 use Rattle.dav_xml.specs.declared.scan.Scan.{Scan}
 use Rattle.dav_xml.specs.Events.{lent_in, later_in, is_ready}
-use Rattle.dav_xml.specs.Reading.{Stand, Verdict, Refused, Passes, begin, next, reads}
+use Rattle.dav_xml.specs.Reading.{Stand, Refused, Passes, begin, next, reads}
 use Rattle.dav_xml.specs.Stands.{Stands, stack_of}
 
 -- the events of what is ready: one start or end, or some text

@@ -1,5 +1,5 @@
 -- The reading of a text byte by byte: the machines of dav_doc for structure and characters side by side, and the limits.
-use Rattle.std.specs.Prelude.{◌≡◌, ℕ, ◌+◌, Bool, true, false, nat_le, List, [], ◌∷◌, ◌++◌, length, Option, Some, None, if◌then◌else◌}
+use Rattle.std.specs.Prelude.{ℕ, ◌+◌, Bool, true, false, nat_le, List, [], ◌∷◌, ◌++◌, length, Option, Some, None, if◌then◌else◌}
 use Rattle.dav_doc.specs.Characters.{Owed, Whole, owed_after}
 use Rattle.dav_doc.specs.Document.{Event, Start}
 use Rattle.dav_doc.specs.Machine.{State, Begin, Markup, InName, InTag, EmptyTag, AtName, BeforeEquals, AfterEquals, InValue, ValueReference, InEnd, EndBlanks, Move, Bad, To, step}

@@ -1,5 +1,5 @@
 -- The positions of the code as states of the machine. Of what no step looks at again, as blanks in a tag, the machine's state may hold any.
-use Rattle.std.specs.Prelude.{◌≡◌, ℕ, Bool, true, false, List, [], ◌∷◌, ◌++◌, fold, Option}
+use Rattle.std.specs.Prelude.{◌≡◌, ℕ, Bool, true, false, List, [], ◌∷◌, ◌++◌, fold}
 use Rattle.dav_doc.specs.Document as document
 use Rattle.dav_doc.specs.Machine as machine
 use Rattle.dav_doc.specs.Machine.{State, scope_of}

@@ -6,7 +6,7 @@ use Rattle.dav_markup.specs.declared.scope.Open.{Open}
 use Rattle.dav_xml.specs.declared.position.Position.{Position}
 use Rattle.dav_xml.specs.declared.position.Position.TheVariants as positions
 use Rattle.dav_xml.specs.declared.step.Step.{Step}
-use Rattle.dav_xml.specs.declared.step.Step.TheVariants.{Further, Text, Opens, Empty, Closes}
+use Rattle.dav_xml.specs.declared.step.Step.TheVariants.{Opens, Empty}
 use Rattle.dav_xml.specs.declared.turn.Turn.{Turn}
 use Rattle.dav_xml.specs.Events.{lent_in, later_in}
 use Rattle.dav_xml.specs.Moves.{Moves}

@@ -15,9 +15,13 @@ pub enum Event<'a> {
         name: &'a [u8],
     },
     /// Text of the innermost open element. More of one text may follow.
-    Chars { bytes: &'a [u8] },
+    Chars {
+        bytes: &'a [u8],
+    },
     /// The element at this depth ends.
-    End { depth: u32 },
+    End {
+        depth: u32,
+    },
 }
 
 /// What a scanner lends.

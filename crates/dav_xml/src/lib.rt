@@ -9,17 +9,18 @@ mod content;
 mod end_tag;
 mod event;
 mod fault;
+mod laws;
 mod limit;
 mod markup;
 mod position;
 mod scan;
 mod start_tag;
 mod step;
-mod turn;
-
 #[cfg(test)]
 mod tests;
+mod turn;
 
 pub use event::Event;
 pub use fault::XmlFault;
+pub use laws::{bad_is_bad, read_goes_on, read_runs};
 pub use scan::{Fed, Scan};

@@ -46,7 +46,7 @@ fn begin_end(alloc: Global, opens: &[Open]) -> Result<Option<Step>, Memory>
     ensures { IfOk result (λ step. (i : Inside (stack_of opens.now)) (st : machine.State) (b : ℕ)
         → machine.step st b ≡ machine.To (machine.end_next i.element i.around [] (written i.element.name)) [] → Moves step (stack_of opens.now) st b) }
 {
-    let Some(open) = opens.last() else {
+    let Some((open, _)) = opens.split_last() else {
         return Ok(None);
     };
     let name = open.name.written(alloc)?;

@@ -3,6 +3,7 @@ ghost use Rattle.dav_xml.specs.Parts.{StepAt};
 ghost use Rattle.dav_xml.specs.Stands.{stack_of};
 ghost use Rattle.dav_doc.specs.Document as document;
 ghost use Rattle.dav_doc.specs.Document.{Forest, IsDocument, events};
+ghost use Rattle.dav_xml.specs.Ending.{is_over as is_over_lem, is_whole as is_whole_lem};
 ghost use Rattle.dav_xml.specs.Events.{lent_in, later_in, event_in};
 ghost use Rattle.dav_xml.specs.Read.{HasRead, Feeds, Stops, Fails, lent};
 
@@ -43,20 +44,35 @@ pub struct Scan {
     fault: Option<XmlFault>,
 }
 
-/// What a byte does below these open elements.
+/// What a byte does below these open elements, where it passes no limit.
 fn step_at(
     alloc: Global,
     position: Position,
     opens: &[Open],
     at: u64,
+    depth: u32,
+    size: u32,
     byte: u8,
 ) -> Result<Step, XmlFault>
-    ensures { StepAt position (stack_of opens.now) at byte result }
+    ensures { StepAt position (stack_of opens.now) at depth size byte result }
 {
     match position.after(alloc, opens, byte) {
-        Ok(Some(step)) => Ok(step),
+        Ok(Some(step)) => match limit_of(&step, depth, size) {
+            Some(which) => Err(XmlFault::Limit { which }),
+            None => Ok(step),
+        },
         Ok(None) => Err(XmlFault::Bad { at }),
         Err(Memory) => Err(XmlFault::Memory),
+    }
+}
+
+/// Whether nothing is owed to a character.
+fn is_whole(owed: Owed) -> bool
+    ensures { result ≡ is_whole_lem owed }
+{
+    match owed {
+        Owed::Whole => true,
+        _ => false,
     }
 }
 
@@ -79,6 +95,7 @@ impl Scan {
     }
 
     /// Takes one byte.
+    #[tactic(none)]
     fn take(&mut self, byte: u8) -> Result<(), XmlFault>
         requires { self.old.at + 1 < 2 ^ 64 }
         ensures goes { (text : List ℕ) (given : List document.Event) → HasRead self.old text given → later_in self.old.lent ≡ []
@@ -91,13 +108,18 @@ impl Scan {
             return Err(XmlFault::Bad { at: self.at });
         };
         let position = mem::replace(&mut self.position, Position::Return);
-        let step = match step_at(self.alloc, position, &self.opens, self.at, byte) {
+        let step = match step_at(
+            self.alloc,
+            position,
+            &self.opens,
+            self.at,
+            self.depth,
+            self.size,
+            byte,
+        ) {
             Ok(step) => step,
             Err(fault) => return Err(fault),
         };
-        if let Some(which) = limit_of(&step, self.depth, self.size) {
-            return Err(XmlFault::Limit { which });
-        }
         let Ok(turn) = take_step(self.alloc, &mut self.opens, self.depth, step) else {
             return Err(XmlFault::Memory);
         };
@@ -122,6 +144,7 @@ impl Scan {
     ///
     /// Bad at the first byte that no document has there, Limit at a byte that passes one, and
     /// Memory. Every later call answers the same fault.
+    #[tactic(none)]
     pub fn feed(&mut self, piece: &[u8]) -> Result<Fed, XmlFault>
         requires { self.old.at + length piece.now < 2 ^ 64 }
         ensures goes { (text : List ℕ) (given : List document.Event) → HasRead self.old text given → IfOk result (λ fed. Feeds text given piece.now fed self.new) }
@@ -169,6 +192,13 @@ impl Scan {
         self.lent.event()
     }
 
+    /// Whether the scanner stands behind a whole root, in no markup and no character.
+    fn is_over(&self) -> bool
+        ensures { result ≡ is_over_lem self.now }
+    {
+        is_whole(self.owed) && self.opens.is_empty() && self.position.is_outside()
+    }
+
     /// Whether the bytes so far are a document.
     ///
     /// # Errors
@@ -184,7 +214,7 @@ impl Scan {
         if let Some(fault) = self.fault {
             return Err(fault);
         }
-        if self.owed == Owed::Whole && self.opens.is_empty() && self.position.is_outside() {
+        if self.is_over() {
             return Ok(());
         }
         Err(XmlFault::Cut)

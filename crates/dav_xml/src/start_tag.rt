@@ -86,12 +86,7 @@ fn between(
 }
 
 /// A byte in the name of a tag.
-fn in_name(
-    alloc: Global,
-    opens: &[Open],
-    name: Name,
-    byte: u8,
-) -> Result<Option<Step>, Memory>
+fn in_name(alloc: Global, opens: &[Open], name: Name, byte: u8) -> Result<Option<Step>, Memory>
     ensures { IfOk result (λ step. Steps (Position.Start (StartTag.Name name)) step (stack_of opens.now) byte) }
 {
     match name.next(alloc, kind_of(byte), byte)? {

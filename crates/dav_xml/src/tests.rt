@@ -25,11 +25,7 @@ fn tell(told: &mut Vec<u8>, event: Event<'_>) -> Result<(), Memory> {
 }
 
 /// Feeds a whole piece, and tells its events.
-fn feed_all(
-    scan: &mut Scan,
-    piece: &[u8],
-    told: &mut Vec<u8>,
-) -> Result<Option<XmlFault>, Memory> {
+fn feed_all(scan: &mut Scan, piece: &[u8], told: &mut Vec<u8>) -> Result<Option<XmlFault>, Memory> {
     let mut used = 0;
     for _ in 0..2 * piece.len() + 1 {
         let fed = match scan.feed(&piece[used..]) {
@@ -46,11 +42,7 @@ fn feed_all(
 }
 
 /// The events of a text that comes in two pieces, and its fault.
-fn read_cut(
-    alloc: Global,
-    text: &[u8],
-    cut: usize,
-) -> Result<(Vec<u8>, Option<XmlFault>), Memory> {
+fn read_cut(alloc: Global, text: &[u8], cut: usize) -> Result<(Vec<u8>, Option<XmlFault>), Memory> {
     let mut scan = Scan::new(alloc)?;
     let mut told = Vec::new(alloc);
     for piece in [&text[..cut], &text[cut..]] {
@@ -65,7 +57,8 @@ fn read_cut(
 #[test]
 fn a_document_gives_its_events_for_any_cut(rt: HostRuntime) -> Result<(), Memory> {
     let alloc = rt.alloc();
-    let text = b"\xef\xbb\xbf<?xml version='1.0'?>\n<!-- - --><D:a xmlns:D=\"DAV:\" xmlns='&#x78;'>\xc3\xa9 &lt;\r\n<b c='\"'/>]<![CDATA[<]]]]><?p ?></D:a >\r";
+    let text =
+        b"\xef\xbb\xbf<?xml version='1.0'?>\n<!-- - --><D:a xmlns:D=\"DAV:\" xmlns='&#x78;'>\xc3\xa9 &lt;\r\n<b c='\"'/>]<![CDATA[<]]]]><?p ?></D:a >\r";
     let want = b"<1 {DAV:}a>\xc3\xa9 <\n<2 {x}b></2>]<]]</1>";
     for cut in 0..text.len() + 1 {
         let (told, fault) = read_cut(alloc, text.as_slice(), cut)?;
@@ -141,5 +134,80 @@ fn a_bad_byte_is_told_at_its_place_for_any_cut(rt: HostRuntime) -> Result<(), Me
             assert_eq!(rt; fault, Some(XmlFault::Bad { at: want }), "{want} at {cut}");
         }
     }
+    Ok(())
+}
+
+/// The fault of a text that comes byte by byte, and the place of the byte that it is told at.
+fn fault_of(alloc: Global, text: &[u8]) -> Result<Option<(XmlFault, usize)>, Memory> {
+    let mut scan = Scan::new(alloc)?;
+    let mut told = Vec::new(alloc);
+    for (at, byte) in text.iter().enumerate() {
+        told.clear();
+        match feed_all(&mut scan, &[*byte], &mut told)? {
+            Some(fault) => return Ok(Some((fault, at))),
+            None => {}
+        }
+    }
+    Ok(None)
+}
+
+/// A part so many times between two others.
+fn repeated(
+    alloc: Global,
+    before: &[u8],
+    part: &[u8],
+    count: usize,
+    after: &[u8],
+) -> Result<Vec<u8>, Memory> {
+    let mut text = Vec::from_slice(alloc, before)?;
+    for _ in 0..count {
+        text.extend_from_slice(part)?;
+    }
+    text.extend_from_slice(after)?;
+    Ok(text)
+}
+
+#[test]
+fn limits_are_met_at_their_byte(rt: HostRuntime) -> Result<(), Memory> {
+    let alloc = rt.alloc();
+    let table: [(&[u8], &[u8], usize, &[u8], Option<(Which, usize)>); 9] = [
+        (b"", b"<a>", 32, b"", None),
+        (b"", b"<a>", 33, b"", Some((Which::Depth, 98))),
+        (b"<a>", b"<a>", 31, b"<b/>", Some((Which::Depth, 99))),
+        (b"<a", b" b=''", 64, b">", None),
+        (
+            b"<a",
+            b" b=''",
+            65,
+            b"></a>",
+            Some((Which::Attributes, 327)),
+        ),
+        (b"<a", b" b=''", 65, b"/>", Some((Which::Attributes, 328))),
+        (b"<a", b" ", 65_533, b">x", None),
+        (b"<a", b" ", 65_534, b">x", Some((Which::Tag, 65_536))),
+        (b"<a></a", b" ", 65_533, b">x", Some((Which::Tag, 65_539))),
+    ];
+    for (before, part, count, after, want) in table {
+        let text = repeated(alloc, before, part, count, after)?;
+        let fault = fault_of(alloc, &text)?;
+        let want = want.map(|(which, at)| (XmlFault::Limit { which }, at));
+        assert_eq!(rt; fault, want);
+    }
+    Ok(())
+}
+
+#[test]
+fn a_text_that_is_cut_is_no_document_and_a_fault_stays(rt: HostRuntime) -> Result<(), Memory> {
+    let alloc = rt.alloc();
+    let table: [&[u8]; 7] = [b"", b"<", b"<a>", b"<a/><!--", b"<a></a", b" ", b"<a>\xc3"];
+    for text in table {
+        let (_, fault) = read_cut(alloc, text, 0)?;
+        assert_eq!(rt; fault, Some(XmlFault::Cut));
+    }
+    let mut scan = Scan::new(alloc)?;
+    let bad = XmlFault::Bad { at: 1 };
+    assert_eq!(rt; scan.feed(b"<<").err(), Some(bad));
+    assert_eq!(rt; scan.feed(b"a").err(), Some(bad));
+    assert_eq!(rt; scan.end().err(), Some(bad));
     Ok(())
 }
