@@ -1,5 +1,6 @@
 ghost use Rattle.std.specs.Prelude.{◌≡◌, ℕ, ◌+◌, ◌<◌, ◌≤◌, ◌⊎◌, ◌&&◌, ◌||◌, not, length, None, Some, Ok, true, false, [], ◌∷◌, IfOk, IfErr, MatchOption};
 ghost use Rattle.dav_doc.specs.Machine.{chars as chars_lem};
+ghost use Rattle.dav_xml.specs.Events.{event_in};
 ghost use Rattle.dav_walk.specs.Lending.{LentAll, LentToStop};
 ghost use Rattle.dav_doc.specs.Document.{Start, Char, End};
 ghost use Rattle.dav_walk.specs.declared.fault.WalkFault.TheVariants as faults;
@@ -12,6 +13,7 @@ use crate::handler::{Handler, Next};
 use crate::opened::Stack;
 use crate::root::Root;
 use dav_text::Which;
+use dav_xml::Event;
 use std::alloc::Global;
 
 /// The response that comes, if one is open, and how many have ended. It takes the events of one document in
@@ -275,5 +277,31 @@ impl Collector {
             rest = others;
         }
         Ok(())
+    }
+
+    /// Takes the next event of the document. Where a response ends with it, lends that.
+    pub(crate) fn take<H: Handler>(
+        &mut self,
+        event: Event<'_>,
+        handler: &mut H,
+    ) -> Result<Next, WalkFault>
+        ensures go { result ≡ Ok Next.Go → ((walk (gathering_of self.old) (event_in event.entry)).outcome ≡ Goes (gathering_of self.new))
+            × LentAll H.lends handler.old (walk (gathering_of self.old) (event_in event.entry)).ended handler.new }
+        ensures stop { result ≡ Ok Next.Stop → ((walk (gathering_of self.old) (event_in event.entry)).outcome ≡ Goes (gathering_of self.new))
+            × LentToStop H.lends handler.old (walk (gathering_of self.old) (event_in event.entry)).ended handler.new }
+        ensures err { IfErr result (λ fault. (handler.new ≡ handler.old) × ((fault ≡ faults.Memory)
+            ⊎ (walk (gathering_of self.old) (event_in event.entry) ≡ record { ended = []; outcome = Fails fault }))) }
+    {
+        match event {
+            Event::Start { depth, ns, name } => match self.start(depth, ns, name) {
+                Ok(()) => Ok(Next::Go),
+                Err(fault) => Err(fault),
+            },
+            Event::Chars { bytes } => match self.chars(bytes) {
+                Ok(()) => Ok(Next::Go),
+                Err(fault) => Err(fault),
+            },
+            Event::End { depth: _ } => self.end(handler),
+        }
     }
 }

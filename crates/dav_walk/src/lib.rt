@@ -14,6 +14,7 @@ mod opened;
 mod props;
 mod reading;
 mod root;
+mod walker;
 
 pub use collector::Collector;
 pub use fault::WalkFault;
@@ -23,6 +24,7 @@ pub use laws::{all_given, walked_are_responses};
 pub use node::{Node, Span};
 pub use props::{Prop, Props};
 pub use root::Root;
+pub use walker::{Walk, Walker};
 
 #[cfg(test)]
 mod tests;
