@@ -94,6 +94,13 @@ impl Scan {
         })
     }
 
+    /// How many bytes were taken so far.
+    pub fn taken(&self) -> u64
+        ensures { result ≡ self.now.at }
+    {
+        self.at
+    }
+
     /// Takes one byte.
     #[tactic(none)]
     fn take(&mut self, byte: u8) -> Result<(), XmlFault>

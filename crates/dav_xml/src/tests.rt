@@ -26,9 +26,12 @@ fn tell(told: &mut Vec<u8>, event: Event<'_>) -> Result<(), Memory> {
 
 /// Feeds a whole piece, and tells its events.
 fn feed_all(scan: &mut Scan, piece: &[u8], told: &mut Vec<u8>) -> Result<Option<XmlFault>, Memory> {
-    let mut used = 0;
-    for _ in 0..2 * piece.len() + 1 {
-        let fed = match scan.feed(&piece[used..]) {
+    let mut rest = piece;
+    for _ in 0..1_000 {
+        if scan.taken() > 1_000_000 || rest.len() > 1_000_000 {
+            return Ok(Some(XmlFault::Memory));
+        }
+        let fed = match scan.feed(rest) {
             Ok(fed) => fed,
             Err(fault) => return Ok(Some(fault)),
         };
@@ -36,16 +39,21 @@ fn feed_all(scan: &mut Scan, piece: &[u8], told: &mut Vec<u8>) -> Result<Option<
             return Ok(None);
         }
         tell(told, scan.event())?;
-        used += fed.used;
+        match rest.get(fed.used..) {
+            Some(left) => rest = left,
+            None => return Ok(Some(XmlFault::Memory)),
+        }
     }
-    Ok(None)
+    Ok(Some(XmlFault::Memory))
 }
 
 /// The events of a text that comes in two pieces, and its fault.
 fn read_cut(alloc: Global, text: &[u8], cut: usize) -> Result<(Vec<u8>, Option<XmlFault>), Memory> {
     let mut scan = Scan::new(alloc)?;
     let mut told = Vec::new(alloc);
-    for piece in [&text[..cut], &text[cut..]] {
+    let front = text.get(..cut).unwrap_or(text);
+    let back = text.get(cut..).unwrap_or(b"");
+    for piece in [front, back] {
         let fault = feed_all(&mut scan, piece, &mut told)?;
         if fault.is_some() {
             return Ok((told, fault));
@@ -60,7 +68,7 @@ fn a_document_gives_its_events_for_any_cut(rt: HostRuntime) -> Result<(), Memory
     let text =
         b"\xef\xbb\xbf<?xml version='1.0'?>\n<!-- - --><D:a xmlns:D=\"DAV:\" xmlns='&#x78;'>\xc3\xa9 &lt;\r\n<b c='\"'/>]<![CDATA[<]]]]><?p ?></D:a >\r";
     let want = b"<1 {DAV:}a>\xc3\xa9 <\n<2 {x}b></2>]<]]</1>";
-    for cut in 0..text.len() + 1 {
+    for cut in 0..=text.len() {
         let (told, fault) = read_cut(alloc, text.as_slice(), cut)?;
         assert!(rt; told.as_slice() == want.as_slice(), "at {cut}");
         assert_eq!(rt; fault, None);
@@ -129,7 +137,7 @@ fn a_bad_byte_is_told_at_its_place_for_any_cut(rt: HostRuntime) -> Result<(), Me
         (b"<!D", 2),
     ];
     for (text, want) in table {
-        for cut in 0..text.len() + 1 {
+        for cut in 0..=text.len() {
             let (_, fault) = read_cut(alloc, text, cut)?;
             assert_eq!(rt; fault, Some(XmlFault::Bad { at: want }), "{want} at {cut}");
         }
@@ -206,8 +214,9 @@ fn a_text_that_is_cut_is_no_document_and_a_fault_stays(rt: HostRuntime) -> Resul
     }
     let mut scan = Scan::new(alloc)?;
     let bad = XmlFault::Bad { at: 1 };
-    assert_eq!(rt; scan.feed(b"<<").err(), Some(bad));
-    assert_eq!(rt; scan.feed(b"a").err(), Some(bad));
+    let mut told = Vec::new(alloc);
+    assert_eq!(rt; feed_all(&mut scan, b"<<", &mut told)?, Some(bad));
+    assert_eq!(rt; feed_all(&mut scan, b"a", &mut told)?, Some(bad));
     assert_eq!(rt; scan.end().err(), Some(bad));
     Ok(())
 }
