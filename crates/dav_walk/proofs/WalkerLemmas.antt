@@ -1,15 +1,20 @@
 -- What a walker does behind a piece and at the end.
-use Rattle.std.proofs.Common.{◌≡◌, ℕ, ◌+◌, Bool, true, false, List, [], ◌∷◌, ◌++◌, length, length-append, zero-add, refl, ap, sym, ◌∙◌, append-nil, arith}
-use Rattle.std.specs.Prelude.{if◌then◌else◌}
+use Rattle.std.proofs.Common.{◌≡◌, ℕ, ◌+◌, Bool, true, false, List, [], ◌∷◌, ◌++◌, length, length-append, zero-add, Ok, Err, Option, Some, None, refl, ap, sym, ◌∙◌, append-nil, arith}
+use Rattle.std.specs.Prelude.{Result, if◌then◌else◌}
 use Rattle.dav_doc.specs.Document as document
 use Rattle.dav_doc.specs.Document.{Forest, Event, Start, Char, End, Nil, IsDocument, events, alone, full}
 use Rattle.dav_doc.specs.Names.{local_of}
 use Rattle.dav_xml.specs.declared.scan.Scan.{Scan}
 use Rattle.dav_xml.specs.Events.{later_in}
+use Rattle.dav_xml.specs.Read.{HasRead}
+use Rattle.dav_xml.specs.Reading.{Reading}
 use Rattle.dav_walk.specs.declared.root.Root.{Root}
 use Rattle.dav_walk.specs.declared.handler.Next.{Next}
 use Rattle.dav_walk.specs.declared.walker.State.{State}
-use Rattle.dav_walk.specs.declared.walker.State.TheVariants.{Going, Stopped}
+use Rattle.dav_walk.specs.declared.walker.State.TheVariants.{Going, Stopped, Failed}
+use Rattle.dav_walk.specs.declared.walker.Walk.{Walk}
+use Rattle.dav_walk.specs.declared.walker.Walk.TheVariants as walks
+use Rattle.dav_walk.specs.declared.fault.WalkFault.{WalkFault}
 use Rattle.dav_walk.specs.Tree.{responses}
 use Rattle.dav_walk.specs.Lending.{Response}
 use Rattle.dav_walk.specs.Gathering.{Gathering, Opened, Walked, Goes, between, is_kept, with_start, with_byte, with_end, ended_by, next, ended, walk}
@@ -48,8 +53,8 @@ finishes root g text es later lent tree d e q w =
     record {
       tree = tree;
       document = d;
-      lent = sym (ap (λ (v : Walked). v.ended) w) ∙ k.1 ∙ ap (given (between root 0)) (sym same) ∙ all.given;
-      count = ap (λ (h : Gathering). h.index) (k.0 ∙ ap (after (between root 0)) (sym same) ∙ all.leads) ∙ omega arith;
+      all = sym (ap (λ (v : Walked). v.ended) w) ∙ k.1 ∙ ap (given (between root 0)) (sym same) ∙ all.given;
+      many = ap (λ (h : Gathering). h.index) (k.0 ∙ ap (after (between root 0)) (sym same) ∙ all.leads) ∙ omega arith;
     }
 
 -- each response that ends is counted
@@ -82,3 +87,40 @@ pub walk_count : (root : Root) (g : Gathering) (es : List Event) (lent : List Re
 walk_count root g es lent w =
     let k = walk_given (between root 0) g es (ap (λ (v : Walked). v.outcome) w) in
     ap (λ (h : Gathering). h.index) k.0 ∙ after_index (between root 0) es ∙ ap (λ z. 0 + length z) (sym k.1 ∙ ap (λ (v : Walked). v.ended) w) ∙ zero-add (length lent)
+
+-- the states are apart, and so are the answers
+pub going_stopped : Going ≡ Stopped → ⊥
+going_stopped e = cc
+
+pub going_failed : {fault : WalkFault} → Going ≡ Failed fault → ⊥
+going_failed e = cc
+
+pub stopped_failed : {fault : WalkFault} → Stopped ≡ Failed fault → ⊥
+stopped_failed e = cc
+
+abbrev answer : Walk → Result Walk WalkFault
+answer walk = Ok walk
+
+abbrev failed : WalkFault → Result Walk WalkFault
+failed fault = Err fault
+
+pub stopped_going : answer walks.Stopped ≡ answer walks.Going → ⊥
+stopped_going e = cc
+
+pub err_ok : (fault : WalkFault) (walk : Walk) → failed fault ≡ answer walk → ⊥
+err_ok fault walk e = cc
+
+pub same_fault : (a b : WalkFault) → Failed a ≡ Failed b → failed a ≡ failed b
+same_fault a b e = cc
+
+-- before the first byte
+events_of : Option Reading → List Event
+events_of None = []
+events_of (Some r) = r.events
+
+pub begins_quiet : (scan : Scan) → HasRead scan [] [] → later_in scan.lent ≡ []
+unfolding events_of
+begins_quiet scan h = sym (ap events_of h.read)
+
+pub walks_from : (root : Root) (g : Gathering) → g ≡ between root 0 → walk (between root 0) [] ≡ record { ended = []; outcome = Goes g }
+walks_from root g e = ap (λ (h : Gathering). let w : Walked = record { ended = []; outcome = Goes h } in w) (sym e)

@@ -57,5 +57,5 @@ pub record StopsAt {S : Type 0} (lends : S → Response → Next → S → Type 
 pub record Finishes (root : Root) (text : List ℕ) (lent : List Response) (count : ℕ) : Type 0 where
   pub tree : Forest
   pub document : IsDocument tree text
-  pub lent : lent ≡ numbered 0 (responses root tree)
-  pub count : count ≡ length (responses root tree)
+  pub all : lent ≡ numbered 0 (responses root tree)
+  pub many : count ≡ length (responses root tree)

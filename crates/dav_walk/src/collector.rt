@@ -19,7 +19,7 @@ use std::alloc::Global;
 /// The response that comes, if one is open, and how many have ended. It takes the events of one document in
 /// order, and keeps one response at most. After a fault it is not to be used again.
 #[derive(Debug, Drop)]
-pub struct Collector {
+pub(crate) struct Collector {
     pub(crate) root: Root,
     pub(crate) gathered: Gathered,
     pub(crate) opened: Stack,
@@ -122,7 +122,7 @@ impl Collector {
     ghost use Rattle.dav_walk.specs.Collecting.{gathering_of};
 
     /// Before the first event.
-    pub fn new(alloc: Global, root: Root) -> Collector
+    pub(crate) fn new(alloc: Global, root: Root) -> Collector
         ensures { gathering_of result ≡ between root 0 }
     {
         Collector {
@@ -165,7 +165,7 @@ impl Collector {
     ///
     /// WrongRoot where the root is another element than the one that is expected; Limit of Nodes and of Held
     /// where a response passes them; and Memory.
-    pub fn start(&mut self, depth: u32, ns: &[u8], name: &[u8]) -> Result<(), WalkFault>
+    pub(crate) fn start(&mut self, depth: u32, ns: &[u8], name: &[u8]) -> Result<(), WalkFault>
         ensures ok { IfOk result (λ _. (fault_of (gathering_of self.old) (Start depth ns.now name.now) ≡ None)
             × (gathering_of self.new ≡ next (gathering_of self.old) (Start depth ns.now name.now))) }
         ensures err { IfErr result (λ fault. (fault ≡ faults.Memory) ⊎ (fault_of (gathering_of self.old) (Start depth ns.now name.now) ≡ Some fault)) }
@@ -234,7 +234,7 @@ impl Collector {
     /// # Errors
     ///
     /// NoHref and BadStatus where a response ends that is not lent for it; and Memory.
-    pub fn end<H: Handler>(&mut self, handler: &mut H) -> Result<Next, WalkFault>
+    pub(crate) fn end<H: Handler>(&mut self, handler: &mut H) -> Result<Next, WalkFault>
         ensures go { result ≡ Ok Next.Go → (end_fault (gathering_of self.old) self.old.opened ≡ None)
             × (gathering_of self.new ≡ with_end (gathering_of self.old) self.old.opened)
             × LentAll H.lends handler.old (ended_by (gathering_of self.old) self.old.opened) handler.new }
@@ -264,7 +264,7 @@ impl Collector {
     /// # Errors
     ///
     /// Limit of Held with the last byte of the character by which a response passes it; and Memory.
-    pub fn chars(&mut self, bytes: &[u8]) -> Result<(), WalkFault>
+    pub(crate) fn chars(&mut self, bytes: &[u8]) -> Result<(), WalkFault>
         ensures ok { IfOk result (λ _. walk (gathering_of self.old) (chars_lem bytes.now) ≡ record { ended = []; outcome = Goes (gathering_of self.new) }) }
         ensures err { IfErr result (λ fault. (fault ≡ faults.Memory) ⊎ (walk (gathering_of self.old) (chars_lem bytes.now) ≡ record { ended = []; outcome = Fails fault })) }
     {

@@ -1,5 +1,6 @@
 use crate::code::code_of;
-use crate::{Collector, Found, Handler, Next, Root, Walk, WalkFault, Walker};
+use crate::collector::Collector;
+use crate::{Found, Handler, Next, Root, Walk, WalkFault, Walker};
 use dav_text::{Memory, Which};
 use std::alloc::Global;
 use std::test::Fail;
@@ -368,13 +369,7 @@ fn pieces_are_lent_alike_at_every_cut(rt: HostRuntime) -> Result<(), Fail> {
 #[test]
 fn a_walk_that_stops_reads_no_more(rt: HostRuntime) -> Result<(), Fail> {
     let mut told = told_so_far(rt.alloc(), 2);
-    let answer = walk_both(
-        rt.alloc(),
-        Root::Multistatus,
-        BODY,
-        b"<",
-        &mut told,
-    );
+    let answer = walk_both(rt.alloc(), Root::Multistatus, BODY, b"<", &mut told);
     assert_eq!(rt; answer, Ok((Walk::Stopped, 2)));
     assert_eq!(rt; told.lent, 2);
     Ok(())

@@ -54,9 +54,9 @@ returns-in-Err-take-clause-fault g c = λ root text lent s.
     elim k.1 [
       | inl e ↦ midway_starved lends root c.loop.scan h text c.args.piece.now c.loop.rest.now lent c.args.handler.now c.take.new.handler c.in-Err-take.fault m e
       | inr e ↦
-        let P : List Event → Type 0 = λ es. walk h es ≡ record { ended = []; outcome = Fails c.in-Err-take.fault } in
-        midway_unfit lends root c.loop.scan c.feed.new.self h text c.args.piece.now c.loop.rest.now lent c.args.handler.now c.take.new.handler c.in-Ok.fed c.in-Err-take.fault m
-        (c.in-Ok.ensures.goes _ m.given m.read) (subst P c.event.ensures e)
+          let P : List Event → Type 0 = λ es. walk h es ≡ record { ended = []; outcome = Fails c.in-Err-take.fault } in
+          midway_unfit lends root c.loop.scan c.feed.new.self h text c.args.piece.now c.loop.rest.now lent c.args.handler.now c.take.new.handler c.in-Ok.fed c.in-Err-take.fault m
+          (c.in-Ok.ensures.goes _ m.given m.read) (subst P c.event.ensures e)
     ]
 
 pub slice_bounds-rest-count : goal.slice_bounds-rest-count

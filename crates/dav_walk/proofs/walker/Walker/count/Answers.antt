@@ -1,6 +1,7 @@
 use Rattle.std.proofs.Common.{◌≡◌, Ok, sym, ap, ◌∙◌, subst}
 use Rattle.dav_walk.specs.declared.walker.State.TheVariants.{Going, Stopped}
 use Rattle.dav_walk.specs.Collecting.{gathering_of}
+use Rattle.dav_walk.specs.Walking.{of_xml}
 use Rattle.dav_walk.specs.WalkerView.{Walking, HasWalked, HasStopped, Finishes}
 use Rattle.dav_walk.proofs.WalkerLemmas.{finishes, walk_count}
 use Rattle.dav_walk.proofs.walker.Walker.count.Goals as goal
@@ -24,4 +25,4 @@ returns-in-Err-clause-cut c = λ text lent w.
     let P : Walking → Type 0 = λ v. HasWalked v text lent in
     let s = (subst P (sym c.self.view_is) w).stands in
     let e = c.in-Err.ensures.cut text s.given s.read in
-    ?
+    (c.of_xml.ensures ∙ ap of_xml e.0, e.1)
