@@ -5,3 +5,5 @@ pub mod TreeLemmas
 pub mod GatheredLemmas
 pub mod OpenedLemmas
 pub mod WalkLemmas
+pub mod Midway
+pub mod WalkerLemmas

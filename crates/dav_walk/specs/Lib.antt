@@ -9,3 +9,6 @@ pub mod Whole
 pub mod GatheredView
 pub mod OpenedView
 pub mod Collecting
+pub mod Walking
+pub mod WalkerView
+pub mod WalkerInside

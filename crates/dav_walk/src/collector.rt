@@ -1,5 +1,6 @@
 ghost use Rattle.std.specs.Prelude.{◌≡◌, ℕ, ◌+◌, ◌<◌, ◌≤◌, ◌⊎◌, ◌&&◌, ◌||◌, not, length, None, Some, Ok, true, false, [], ◌∷◌, IfOk, IfErr, MatchOption};
 ghost use Rattle.dav_doc.specs.Machine.{chars as chars_lem};
+ghost use Rattle.dav_xml.specs.Events.{event_in};
 ghost use Rattle.dav_walk.specs.Lending.{LentAll, LentToStop};
 ghost use Rattle.dav_doc.specs.Document.{Start, Char, End};
 ghost use Rattle.dav_walk.specs.declared.fault.WalkFault.TheVariants as faults;
@@ -12,12 +13,13 @@ use crate::handler::{Handler, Next};
 use crate::opened::Stack;
 use crate::root::Root;
 use dav_text::Which;
+use dav_xml::Event;
 use std::alloc::Global;
 
 /// The response that comes, if one is open, and how many have ended. It takes the events of one document in
 /// order, and keeps one response at most. After a fault it is not to be used again.
 #[derive(Debug, Drop)]
-pub struct Collector {
+pub(crate) struct Collector {
     pub(crate) root: Root,
     pub(crate) gathered: Gathered,
     pub(crate) opened: Stack,
@@ -120,7 +122,7 @@ impl Collector {
     ghost use Rattle.dav_walk.specs.Collecting.{gathering_of};
 
     /// Before the first event.
-    pub fn new(alloc: Global, root: Root) -> Collector
+    pub(crate) fn new(alloc: Global, root: Root) -> Collector
         ensures { gathering_of result ≡ between root 0 }
     {
         Collector {
@@ -163,7 +165,7 @@ impl Collector {
     ///
     /// WrongRoot where the root is another element than the one that is expected; Limit of Nodes and of Held
     /// where a response passes them; and Memory.
-    pub fn start(&mut self, depth: u32, ns: &[u8], name: &[u8]) -> Result<(), WalkFault>
+    pub(crate) fn start(&mut self, depth: u32, ns: &[u8], name: &[u8]) -> Result<(), WalkFault>
         ensures ok { IfOk result (λ _. (fault_of (gathering_of self.old) (Start depth ns.now name.now) ≡ None)
             × (gathering_of self.new ≡ next (gathering_of self.old) (Start depth ns.now name.now))) }
         ensures err { IfErr result (λ fault. (fault ≡ faults.Memory) ⊎ (fault_of (gathering_of self.old) (Start depth ns.now name.now) ≡ Some fault)) }
@@ -232,7 +234,7 @@ impl Collector {
     /// # Errors
     ///
     /// NoHref and BadStatus where a response ends that is not lent for it; and Memory.
-    pub fn end<H: Handler>(&mut self, handler: &mut H) -> Result<Next, WalkFault>
+    pub(crate) fn end<H: Handler>(&mut self, handler: &mut H) -> Result<Next, WalkFault>
         ensures go { result ≡ Ok Next.Go → (end_fault (gathering_of self.old) self.old.opened ≡ None)
             × (gathering_of self.new ≡ with_end (gathering_of self.old) self.old.opened)
             × LentAll H.lends handler.old (ended_by (gathering_of self.old) self.old.opened) handler.new }
@@ -262,7 +264,7 @@ impl Collector {
     /// # Errors
     ///
     /// Limit of Held with the last byte of the character by which a response passes it; and Memory.
-    pub fn chars(&mut self, bytes: &[u8]) -> Result<(), WalkFault>
+    pub(crate) fn chars(&mut self, bytes: &[u8]) -> Result<(), WalkFault>
         ensures ok { IfOk result (λ _. walk (gathering_of self.old) (chars_lem bytes.now) ≡ record { ended = []; outcome = Goes (gathering_of self.new) }) }
         ensures err { IfErr result (λ fault. (fault ≡ faults.Memory) ⊎ (walk (gathering_of self.old) (chars_lem bytes.now) ≡ record { ended = []; outcome = Fails fault })) }
     {
@@ -275,5 +277,31 @@ impl Collector {
             rest = others;
         }
         Ok(())
+    }
+
+    /// Takes the next event of the document. Where a response ends with it, lends that.
+    pub(crate) fn take<H: Handler>(
+        &mut self,
+        event: Event<'_>,
+        handler: &mut H,
+    ) -> Result<Next, WalkFault>
+        ensures go { result ≡ Ok Next.Go → ((walk (gathering_of self.old) (event_in event.entry)).outcome ≡ Goes (gathering_of self.new))
+            × LentAll H.lends handler.old (walk (gathering_of self.old) (event_in event.entry)).ended handler.new }
+        ensures stop { result ≡ Ok Next.Stop → ((walk (gathering_of self.old) (event_in event.entry)).outcome ≡ Goes (gathering_of self.new))
+            × LentToStop H.lends handler.old (walk (gathering_of self.old) (event_in event.entry)).ended handler.new }
+        ensures err { IfErr result (λ fault. (handler.new ≡ handler.old) × ((fault ≡ faults.Memory)
+            ⊎ (walk (gathering_of self.old) (event_in event.entry) ≡ record { ended = []; outcome = Fails fault }))) }
+    {
+        match event {
+            Event::Start { depth, ns, name } => match self.start(depth, ns, name) {
+                Ok(()) => Ok(Next::Go),
+                Err(fault) => Err(fault),
+            },
+            Event::Chars { bytes } => match self.chars(bytes) {
+                Ok(()) => Ok(Next::Go),
+                Err(fault) => Err(fault),
+            },
+            Event::End { depth: _ } => self.end(handler),
+        }
     }
 }

@@ -1,5 +1,5 @@
-//! The responses of a DAV document, one after another: a collector takes the events of the document and lends each response to a
-//! handler when it ends, and says what a response tells without memory. RFC 4918 section 14.24.
+//! A walker over a DAV document that comes in pieces: it lends each response to a handler when its last byte has come, keeps one
+//! response at most, and says what a response tells without memory. RFC 4918 section 14.24.
 #![tactic(auto)]
 
 mod code;
@@ -14,8 +14,8 @@ mod opened;
 mod props;
 mod reading;
 mod root;
+mod walker;
 
-pub use collector::Collector;
 pub use fault::WalkFault;
 pub use found::Found;
 pub use handler::{Handler, Next};
@@ -23,6 +23,7 @@ pub use laws::{all_given, walked_are_responses};
 pub use node::{Node, Span};
 pub use props::{Prop, Props};
 pub use root::Root;
+pub use walker::{Walk, Walker};
 
 #[cfg(test)]
 mod tests;

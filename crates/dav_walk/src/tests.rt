@@ -1,5 +1,6 @@
 use crate::code::code_of;
-use crate::{Collector, Found, Handler, Next, Root, WalkFault};
+use crate::collector::Collector;
+use crate::{Found, Handler, Next, Root, Walk, WalkFault, Walker};
 use dav_text::{Memory, Which};
 use std::alloc::Global;
 use std::test::Fail;
@@ -302,5 +303,103 @@ fn limits(rt: HostRuntime) -> Result<(), Fail> {
     let held = WalkFault::Limit { which: Which::Held };
     assert_eq!(rt; collector.chars(b"\xc3"), Ok(()));
     assert_eq!(rt; collector.chars(b"\xa9"), Err(held));
+    Ok(())
+}
+
+/// A listing as a server may write it.
+const BODY: &[u8] = b"<?xml version=\"1.0\"?><D:multistatus xmlns:D=\"DAV:\"><!-- c --><D:response>\
+<D:href>/p/</D:href><D:propstat><D:prop><D:resourcetype><D:collection/></D:resourcetype></D:prop>\
+<D:status>HTTP/1.1 200 OK</D:status></D:propstat></D:response><response xmlns=\"DAV:\"><href>/p/a&amp;b</href>\
+<propstat><prop><getcontentlength><![CDATA[12]]></getcontentlength></prop><status>HTTP/1.1 200 OK</status></propstat>\
+</response><D:response><D:href>/p/&#x41;</D:href><D:status>HTTP/1.1 404 Not Found</D:status></D:response></D:multistatus>";
+
+/// Feeds a piece, where there is room for its bytes.
+fn feed_piece(walker: &mut Walker, piece: &[u8], told: &mut Told) -> Result<Walk, WalkFault> {
+    if walker.taken() > 1_000_000 || piece.len() > 1_000_000 {
+        return Err(WalkFault::Memory);
+    }
+    walker.feed(piece, told)
+}
+
+fn feed_both(
+    walker: &mut Walker,
+    first: &[u8],
+    second: &[u8],
+    told: &mut Told,
+) -> Result<Walk, WalkFault> {
+    feed_piece(walker, first, told)?;
+    feed_piece(walker, second, told)
+}
+
+/// What two pieces give: the walk's answer, and the number of responses.
+fn walk_both(
+    alloc: Global,
+    root: Root,
+    first: &[u8],
+    second: &[u8],
+    told: &mut Told,
+) -> Result<(Walk, u64), WalkFault> {
+    let Ok(walker) = Walker::new(alloc, root) else {
+        return Err(WalkFault::Memory);
+    };
+    let mut walker = walker;
+    let fed = feed_both(&mut walker, first, second, told);
+    let count = walker.finish(told);
+    Ok((fed?, count?))
+}
+
+#[test]
+fn pieces_are_lent_alike_at_every_cut(rt: HostRuntime) -> Result<(), Fail> {
+    let want = b"/p/ 200:resourcetype=\n/p/a&b 200:getcontentlength=12\n/p/A 404\n";
+    for at in 0..BODY.len() {
+        let mut told = told_so_far(rt.alloc(), 9);
+        let answer = walk_both(
+            rt.alloc(),
+            Root::Multistatus,
+            &BODY[..at],
+            &BODY[at..],
+            &mut told,
+        );
+        assert_eq!(rt; answer, Ok((Walk::Going, 3)));
+        assert_eq!(rt; told.text.as_slice(), want.as_slice());
+    }
+    Ok(())
+}
+
+#[test]
+fn a_walk_that_stops_reads_no_more(rt: HostRuntime) -> Result<(), Fail> {
+    let mut told = told_so_far(rt.alloc(), 2);
+    let answer = walk_both(rt.alloc(), Root::Multistatus, BODY, b"<", &mut told);
+    assert_eq!(rt; answer, Ok((Walk::Stopped, 2)));
+    assert_eq!(rt; told.lent, 2);
+    Ok(())
+}
+
+#[test]
+fn faults_of_a_text(rt: HostRuntime) -> Result<(), Fail> {
+    let cases = [
+        ("<a/>", WalkFault::WrongRoot),
+        ("<D:multistatus/>", WalkFault::Xml { at: 14 }),
+        (
+            "<multistatus xmlns='DAV:'><response/></multistatus>",
+            WalkFault::NoHref { index: 0 },
+        ),
+        (
+            "<multistatus xmlns='DAV:'><response><href>/a</href><status>ok</status></response>",
+            WalkFault::BadStatus { index: 0 },
+        ),
+        ("<multistatus xmlns='DAV:'>", WalkFault::Cut),
+    ];
+    for (text, fault) in &cases {
+        let mut told = told_so_far(rt.alloc(), 9);
+        let answer = walk_both(
+            rt.alloc(),
+            Root::Multistatus,
+            text.as_bytes(),
+            b"",
+            &mut told,
+        );
+        assert_eq!(rt; answer, Err(*fault), "{text}");
+    }
     Ok(())
 }
