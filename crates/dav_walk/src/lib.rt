@@ -26,4 +26,8 @@ pub use root::Root;
 pub use walker::{Walk, Walker};
 
 #[cfg(test)]
+mod replies;
+#[cfg(test)]
+mod server_tests;
+#[cfg(test)]
 mod tests;

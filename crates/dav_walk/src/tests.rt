@@ -18,7 +18,7 @@ use Say::{Close, Open, Other, Text};
 
 /// A handler that keeps what it is lent as text, and stops behind so many responses.
 #[derive(Drop)]
-struct Told {
+pub(crate) struct Told {
     text: Vec<u8>,
     lent: u64,
     most: u64,
@@ -26,6 +26,10 @@ struct Told {
 }
 
 impl Told {
+    pub(crate) fn text(&self) -> &[u8] {
+        self.text.as_slice()
+    }
+
     fn tell(&mut self, found: &Found<'_>) -> Result<(), Memory> {
         self.text.extend_from_slice(found.href())?;
         if let Some(status) = found.status() {
@@ -61,7 +65,7 @@ impl Handler for Told {
     }
 }
 
-fn told_so_far(alloc: Global, most: u64) -> Told {
+pub(crate) fn told_so_far(alloc: Global, most: u64) -> Told {
     Told {
         text: Vec::new(alloc),
         lent: 0,
