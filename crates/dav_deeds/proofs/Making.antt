@@ -18,7 +18,7 @@ use Rattle.dav_index.specs.declared.table.Table.{Table}
 use Rattle.dav_deeds.specs.declared.desk_table.DeskTable.TheInside.{Inside}
 use Rattle.dav_deeds.specs.DeskTable.{DeskTable}
 use Rattle.dav_deeds.specs.DeskView.{table_of, IsHeld}
-use Rattle.dav_deeds.specs.Effects.{Wait, Effect, quiet, bare, moment, file_of, files_of, is_flying, grounded, going, forgot_record, waiting_at, taken, fated_of, record_of_fate, wait_of_fate, settle_by_fate, settle_effect, store_effect, effect_unless, effect_of, waited, recorded, changed}
+use Rattle.dav_deeds.specs.Effects.{Effect, quiet, bare, file_of, files_of, is_flying, grounded, going, forgot_record, waiting_at, taken, fated_of, record_of_fate, wait_of_fate, settle_by_fate, settle_effect, store_effect, effect_unless, effect_of, waited, recorded, changed}
 use Rattle.dav_deeds.specs.Refusals.{store_refusal, queued_with, queued_fault, job_fault, refusal_of}
 use Rattle.dav_deeds.specs.Legal.{body_unless, deed_of, IsDone}
 use Rattle.dav_deeds.specs.Made.{IsMadeBy, IsMade, tried_by, wait_by, file_unless, file_going}

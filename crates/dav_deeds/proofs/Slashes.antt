@@ -1,11 +1,10 @@
 -- The text of a path without the slash at its end.
-use Rattle.std.proofs.Common.{◌≡◌, ◌≢◌, ℕ, ◌+◌, Bool, true, false, List, [], ◌∷◌, ◌++◌, length, Ok, refl, sym, ◌∙◌, ap, subst, arith, append-nil, append_assoc, length-append}
+use Rattle.std.proofs.Common.{◌≡◌, ◌≢◌, ℕ, Bool, true, false, List, [], ◌∷◌, ◌++◌, length, Ok, refl, sym, ◌∙◌, ap, arith, append-nil, length-append}
 use Rattle.std.proofs.lemmas.Bool.{false≢true}
 use Rattle.std.proofs.lemmas.List.{append_cancel_right}
 use Rattle.dav_text.specs.Path.{PathParts, IsPath, escaped, escaped_parts, escaped_segments}
 use Rattle.dav_text.specs.Reading.{path_of}
 use Rattle.dav_text.proofs.RoundTrip.{read_back}
-use Rattle.dav_index.specs.Records.{IsBare}
 use Rattle.dav_deeds.specs.Effects.{bare, is_nothing}
 use Rattle.dav_deeds.proofs.Sounds.{bare_is}
 

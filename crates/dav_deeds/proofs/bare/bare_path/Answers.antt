@@ -1,9 +1,8 @@
-use Rattle.std.proofs.Common.{rules, ◌≡◌, ◌≢◌, ◌∙◌, sym, ℕ, true, Result, Ok, Some, arith, List, [], ◌∷◌, ◌++◌}
+use Rattle.std.proofs.Common.{rules, ◌≡◌, ◌≢◌, ◌∙◌, sym, true, Result, Ok, Some, arith, [], ◌∷◌, ◌++◌}
 use Rattle.std.proofs.lemmas.Str.Pattern.{strip_suffix_char}
 use lib.Utf8 as utf8
-use Rattle.dav_text.specs.Path.{PathParts, escaped}
+use Rattle.dav_text.specs.Path.{PathParts}
 use Rattle.dav_text.specs.declared.fault.PathFault.{PathFault}
-use Rattle.dav_text.specs.Reading.{path_of}
 use Rattle.dav_deeds.specs.Effects.{bare}
 use Rattle.dav_deeds.proofs.Slashes.{ends, rest_reads}
 use Rattle.dav_deeds.proofs.bare.bare_path.Goals as goal

@@ -1,4 +1,4 @@
-use Rattle.std.proofs.Common.{◌≡◌, ℕ, List, [], ◌∷◌, ◌++◌, ◌+◌, take, Option, Some, None, sym, ◌∙◌, ap, append-nil}
+use Rattle.std.proofs.Common.{ℕ, List, [], ◌∷◌, ◌++◌, take, Option, sym, ◌∙◌, ap, append-nil}
 use Rattle.std.specs.Option.{option_to_list}
 use Rattle.dav_deeds.specs.Effects.{files_of, going, grounded}
 use Rattle.dav_deeds.proofs.Making.{going_more}

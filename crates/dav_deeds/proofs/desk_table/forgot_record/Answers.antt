@@ -1,4 +1,4 @@
-use Rattle.std.proofs.Common.{rules, ◌≡◌, ◌∙◌, sym, true, false}
+use Rattle.std.proofs.Common.{rules}
 use Rattle.dav_deeds.proofs.Making.{none_goes, some_goes}
 use Rattle.dav_deeds.proofs.desk_table.forgot_record.Goals as goal
 

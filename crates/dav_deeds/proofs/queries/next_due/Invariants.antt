@@ -1,6 +1,5 @@
-use Rattle.std.proofs.Common.{◌≡◌, take, Option, None, fold}
+use Rattle.std.proofs.Common.{◌≡◌, take, None, fold}
 use Rattle.std.specs.Option.{option_copied}
-use Rattle.dav_index.specs.Item.{Item}
 use Rattle.dav_index.specs.Queries.{sooner}
 use Rattle.dav_deeds.proofs.queries.next_due.Given as goal
 

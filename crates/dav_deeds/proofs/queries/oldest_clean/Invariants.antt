@@ -1,6 +1,5 @@
-use Rattle.std.proofs.Common.{◌≡◌, take, Option, None, fold}
+use Rattle.std.proofs.Common.{◌≡◌, take, None, fold}
 use Rattle.std.specs.Option.{option_copied}
-use Rattle.dav_index.specs.Item.{Item}
 use Rattle.dav_index.specs.Queries.{older}
 use Rattle.dav_deeds.proofs.queries.oldest_clean.Given as goal
 

@@ -1,15 +1,11 @@
-use Rattle.std.proofs.Common.{rules, ◌≡◌, ◌+◌, ◌++◌, [], ◌∷◌, List, ℕ, length, Option, Some, None, false, refl, sym, ◌∙◌, ap, subst}
+use Rattle.std.proofs.Common.{rules, ◌≡◌, ◌+◌, ◌++◌, List, ℕ, Option, Some, None, false, refl, sym, ◌∙◌, ap, subst}
 use Rattle.dav_index.specs.Records.{text_of}
 use Rattle.dav_index.specs.declared.record.Record.TheVariants as records
 use Rattle.dav_index.specs.declared.table.Table.{Table}
 use Rattle.dav_text.specs.Path.{PathParts}
 use Rattle.dav_deeds.specs.declared.deed.Deed.TheVariants as deeds
-use Rattle.dav_deeds.specs.declared.deed.Step.{Step}
-use Rattle.dav_deeds.specs.declared.made.Made.{Made}
 use Rattle.dav_deeds.specs.DeskTable.{DeskTable}
-use Rattle.dav_deeds.specs.Effects.{bare, file_of, body_at, grounded, store_effect, changed, moment}
-use Rattle.dav_deeds.specs.Made.{IsMadeBy}
-use Rattle.dav_deeds.specs.DeskView.{table_of}
+use Rattle.dav_deeds.specs.Effects.{file_of, body_at, grounded, store_effect, changed, moment}
 use Rattle.dav_deeds.specs.Refusals.{store_refusal}
 use Rattle.dav_deeds.specs.declared.deed.Mark.TheVariants as marks
 use Rattle.dav_deeds.specs.declared.answer.Told.TheVariants as answers
