@@ -55,7 +55,7 @@ fn walked<H: Handler>(
         return Err(WalkFault::Memory);
     };
     let mut walker = walker;
-    for piece in document.chunks(length) {
+    for piece in document.chunks(length.max(1)) {
         if walker.taken() > 1_000_000 || piece.len() > 1_000_000 {
             return Err(WalkFault::Memory);
         }
