@@ -314,7 +314,8 @@ fn limits(rt: HostRuntime) -> Result<(), Fail> {
 const BODY: &[u8] = b"<?xml version=\"1.0\"?><D:multistatus xmlns:D=\"DAV:\"><!-- c --><D:response>\
 <D:href>/p/</D:href><D:propstat><D:prop><D:resourcetype><D:collection/></D:resourcetype></D:prop>\
 <D:status>HTTP/1.1 200 OK</D:status></D:propstat></D:response><response xmlns=\"DAV:\"><href>/p/a&amp;b</href>\
-<propstat><prop><getcontentlength><![CDATA[12]]></getcontentlength></prop><status>HTTP/1.1 200 OK</status></propstat>\
+<propstat><prop><getcontentlength><![CDATA[12]]></getcontentlength>\
+<getlastmodified>Sun, 06 Nov 1994 08:49:37 GMT</getlastmodified></prop><status>HTTP/1.1 200 OK</status></propstat>\
 </response><D:response><D:href>/p/&#x41;</D:href><D:status>HTTP/1.1 404 Not Found</D:status></D:response></D:multistatus>";
 
 /// Feeds a piece, where there is room for its bytes.
@@ -354,7 +355,8 @@ fn walk_both(
 
 #[test]
 fn pieces_are_lent_alike_at_every_cut(rt: HostRuntime) -> Result<(), Fail> {
-    let want = b"/p/ 200:resourcetype=\n/p/a&b 200:getcontentlength=12\n/p/A 404\n";
+    let want = b"/p/ 200:resourcetype=\n/p/a&b 200:getcontentlength=12 \
+200:getlastmodified=Sun, 06 Nov 1994 08:49:37 GMT\n/p/A 404\n";
     for at in 0..BODY.len() {
         let mut told = told_so_far(rt.alloc(), 9);
         let answer = walk_both(
