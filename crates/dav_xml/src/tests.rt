@@ -47,19 +47,32 @@ fn feed_all(scan: &mut Scan, piece: &[u8], told: &mut Vec<u8>) -> Result<Option<
     Ok(Some(XmlFault::Memory))
 }
 
+/// Feeds a text in two pieces, tells its events, and gives its fault.
+fn feed_cut(
+    scan: &mut Scan,
+    text: &[u8],
+    cut: usize,
+    told: &mut Vec<u8>,
+) -> Result<Option<XmlFault>, Memory> {
+    let front = text.get(..cut).unwrap_or(text);
+    let back = text.get(cut..).unwrap_or(b"");
+    for piece in [front, back] {
+        let fault = feed_all(scan, piece, told)?;
+        if fault.is_some() {
+            return Ok(fault);
+        }
+    }
+    Ok(scan.end().err())
+}
+
 /// The events of a text that comes in two pieces, and its fault.
 fn read_cut(alloc: Global, text: &[u8], cut: usize) -> Result<(Vec<u8>, Option<XmlFault>), Memory> {
     let mut scan = Scan::new(alloc)?;
     let mut told = Vec::new(alloc);
-    let front = text.get(..cut).unwrap_or(text);
-    let back = text.get(cut..).unwrap_or(b"");
-    for piece in [front, back] {
-        let fault = feed_all(&mut scan, piece, &mut told)?;
-        if fault.is_some() {
-            return Ok((told, fault));
-        }
+    match feed_cut(&mut scan, text, cut, &mut told) {
+        Ok(fault) => Ok((told, fault)),
+        Err(memory) => Err(memory),
     }
-    Ok((told, scan.end().err()))
 }
 
 #[test]
@@ -137,7 +150,7 @@ fn a_bad_byte_is_told_at_its_place_for_any_cut(rt: HostRuntime) -> Result<(), Me
         (b"<!D", 2),
     ];
     for (text, want) in table {
-        for cut in 0..=text.len() {
+        for cut in 0..text.len() {
             let (_, fault) = read_cut(alloc, text, cut)?;
             assert_eq!(rt; fault, Some(XmlFault::Bad { at: want }), "{want} at {cut}");
         }
@@ -145,18 +158,27 @@ fn a_bad_byte_is_told_at_its_place_for_any_cut(rt: HostRuntime) -> Result<(), Me
     Ok(())
 }
 
-/// The fault of a text that comes byte by byte, and the place of the byte that it is told at.
-fn fault_of(alloc: Global, text: &[u8]) -> Result<Option<(XmlFault, usize)>, Memory> {
-    let mut scan = Scan::new(alloc)?;
-    let mut told = Vec::new(alloc);
+/// Feeds a text byte by byte, and gives its fault with the place of the byte that it is told at.
+fn feed_bytes(
+    scan: &mut Scan,
+    text: &[u8],
+    told: &mut Vec<u8>,
+) -> Result<Option<(XmlFault, usize)>, Memory> {
     for (at, byte) in text.iter().enumerate() {
         told.clear();
-        match feed_all(&mut scan, &[*byte], &mut told)? {
+        match feed_all(scan, &[*byte], told)? {
             Some(fault) => return Ok(Some((fault, at))),
             None => {}
         }
     }
     Ok(None)
+}
+
+/// The fault of a text that comes byte by byte, and the place of the byte that it is told at.
+fn fault_of(alloc: Global, text: &[u8]) -> Result<Option<(XmlFault, usize)>, Memory> {
+    let mut scan = Scan::new(alloc)?;
+    let mut told = Vec::new(alloc);
+    feed_bytes(&mut scan, text, &mut told)
 }
 
 /// A part so many times between two others.
@@ -204,6 +226,21 @@ fn limits_are_met_at_their_byte(rt: HostRuntime) -> Result<(), Memory> {
     Ok(())
 }
 
+/// The faults of a bad piece, of another piece behind it, and of the end.
+type Faults = (Option<XmlFault>, Option<XmlFault>, Option<XmlFault>);
+
+fn feed_bad(scan: &mut Scan, told: &mut Vec<u8>) -> Result<Faults, Memory> {
+    let first = feed_all(scan, b"<<", told)?;
+    let second = feed_all(scan, b"a", told)?;
+    Ok((first, second, scan.end().err()))
+}
+
+fn bad_twice(alloc: Global) -> Result<Faults, Memory> {
+    let mut scan = Scan::new(alloc)?;
+    let mut told = Vec::new(alloc);
+    feed_bad(&mut scan, &mut told)
+}
+
 #[test]
 fn a_text_that_is_cut_is_no_document_and_a_fault_stays(rt: HostRuntime) -> Result<(), Memory> {
     let alloc = rt.alloc();
@@ -212,11 +249,7 @@ fn a_text_that_is_cut_is_no_document_and_a_fault_stays(rt: HostRuntime) -> Resul
         let (_, fault) = read_cut(alloc, text, 0)?;
         assert_eq!(rt; fault, Some(XmlFault::Cut));
     }
-    let mut scan = Scan::new(alloc)?;
-    let bad = XmlFault::Bad { at: 1 };
-    let mut told = Vec::new(alloc);
-    assert_eq!(rt; feed_all(&mut scan, b"<<", &mut told)?, Some(bad));
-    assert_eq!(rt; feed_all(&mut scan, b"a", &mut told)?, Some(bad));
-    assert_eq!(rt; scan.end().err(), Some(bad));
+    let bad = Some(XmlFault::Bad { at: 1 });
+    assert_eq!(rt; bad_twice(alloc)?, (bad, bad, bad));
     Ok(())
 }
