@@ -2,10 +2,8 @@
 //! prints the number of each that was acknowledged; `dav_trial read FOLDER` prints how many stand.
 #![tactic(auto)]
 
-mod folder_disk;
 mod trial;
 
-use folder_disk::FolderDisk;
 use std::process::ExitCode;
 use std::rt::Env;
 use std::{env, io};

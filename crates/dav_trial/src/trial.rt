@@ -1,6 +1,6 @@
 ghost use Rattle.std.specs.Prelude.{◌≡◌, ⊤, length, IfOk};
 
-use crate::FolderDisk;
+use dav_real::FolderDisk;
 use dav_store::{Bodies, BodyId, Journal, StoreFault, head_payload};
 use dav_text::Memory;
 use std::alloc::{AllocError, Global};

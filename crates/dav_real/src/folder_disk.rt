@@ -1,7 +1,7 @@
 ghost use Rattle.std.specs.Prelude.{◌≡◌, ◌+◌, ◌<◌, ◌≤◌, [], length, IfOk, IsTrue, IsFalse};
 ghost use Rattle.dav_disk.specs.Disk.{settled};
 ghost use Rattle.dav_machine.specs.Log.{Rose};
-ghost use Rattle.dav_trial.specs.Blind.{reads_blind};
+ghost use Rattle.dav_real.specs.Blind.{reads_blind};
 
 use dav_disk::{Disk, Failed};
 use std::fs::{File, OpenFile, OpenOptions};
@@ -111,7 +111,11 @@ fn settle<R: Files + AllocGlobal>(rt: &R, folder: &str, file: u32) -> io::Result
 }
 
 impl<'a, R: Files + AllocGlobal> FolderDisk<'a, R> {
-    pub fn new(rt: &'a R, folder: &'a str) -> Self {
+    /// The folder as a disk that was asked nothing yet. It is opened in each call that needs it.
+    pub fn new(rt: &'a R, folder: &'a str) -> Self
+        ensures calls { result.calls ≡ 0 }
+        ensures faults { result.faults ≡ 0 }
+    {
         FolderDisk {
             rt,
             folder,
