@@ -7,3 +7,6 @@ pub mod OpenedLemmas
 pub mod WalkLemmas
 pub mod Midway
 pub mod WalkerLemmas
+pub mod Timing
+pub mod PlaceLemmas
+pub mod SoFarLemmas

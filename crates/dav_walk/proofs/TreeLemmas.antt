@@ -20,17 +20,17 @@ given-append g (e ∷ es) later =
     ∙ sym (append_assoc (ended g e) (given (next g e) es) (given (after (next g e) es) later))
 
 -- within a response
-abbrev within : Root → ℕ → List Item → List Opened → ℕ → ℕ → Gathering
+abbrev pub within : Root → ℕ → List Item → List Opened → ℕ → ℕ → Gathering
 within root index xs os held owed = record { root = root; items = xs; opened = os; held = held; owed = owed; index = index }
 
 -- the events end no response, and lead from these items and open elements to those
-record Gathered (root : Root) (index : ℕ) (es : List Event) (xs : List Item) (os : List Opened) (held owed : ℕ) (ys : List Item) (ps : List Opened) : Type 0 where
-  holds : ℕ
-  owes : ℕ
-  leads : after (within root index xs os held owed) es ≡ within root index ys ps holds owes
-  none : given (within root index xs os held owed) es ≡ []
+pub record Gathered (root : Root) (index : ℕ) (es : List Event) (xs : List Item) (os : List Opened) (held owed : ℕ) (ys : List Item) (ps : List Opened) : Type 0 where
+  pub holds : ℕ
+  pub owes : ℕ
+  pub leads : after (within root index xs os held owed) es ≡ within root index ys ps holds owes
+  pub none : given (within root index xs os held owed) es ≡ []
 
-abbrev Gathers : Root → ℕ → List Event → List Item → List Opened → List Item → List Opened → Type 0
+abbrev pub Gathers : Root → ℕ → List Event → List Item → List Opened → List Item → List Opened → Type 0
 Gathers root index es xs os ys ps = (held owed : ℕ) → Gathered root index es xs os held owed ys ps
 
 gathers_none : (root : Root) (index : ℕ) (xs : List Item) (os : List Opened) → Gathers root index [] xs os xs os
@@ -77,7 +77,7 @@ with_text_at [] ys x text = refl
 with_text_at (y ∷ xs) ys x text = ap (λ z. y ∷ z) (with_text_at xs ys x text)
 
 -- the events of trees in an open element
-gathers_all : (root : Root) (index d : ℕ) (f : Forest) (xs : List Item) (o : Opened) (os : List Opened)
+pub gathers_all : (root : Root) (index d : ℕ) (f : Forest) (xs : List Item) (o : Opened) (os : List Opened)
     → Gathers root index (events d f) xs (o ∷ os) (xs ++ items d f) (record { place = o.place; text = o.text ++ direct f } ∷ os)
 gathers_all root index d Nil xs o os =
     gathers_as root index [] xs xs (xs ++ []) (o ∷ os) (o ∷ os) _ (sym (append-nil xs)) (ap (λ t. let p : Opened = record { place = o.place; text = t } in p ∷ os) (sym (append-nil o.text))) (gathers_none root index xs (o ∷ os))
@@ -163,7 +163,7 @@ gives_as : (root : Root) (index : ℕ) (es : List Event) (xs ys : List (List Ite
 gives_as root index es xs ys e g = let P : List (List Item) → Type 0 = λ z. Gives root index es z in subst P e g
 
 -- a start that begins no response, a byte and an end
-quiet_start : (root : Root) (index d : ℕ) (ns name : List ℕ) → begins root d ns name ≡ false → Gives root index (Start d ns name ∷ []) []
+pub quiet_start : (root : Root) (index d : ℕ) (ns name : List ℕ) → begins root d ns name ≡ false → Gives root index (Start d ns name ∷ []) []
 quiet_start root index d ns name e = record {
   leads = ap (λ (t : Bool). if t then with_start (between root index) d ns name else between root index) e ∙ ap (between root) (omega arith);
   given = refl;
@@ -198,7 +198,7 @@ gives_skipped index d (Element ns name inside f) h =
     (gives_skipped index (d + 1) inside (omega arith)) (gives_from Multistatus index (events d f) [] (gives_skipped index d f h))
 
 -- a child of the root, and what follows it
-gives_child : (is_response : Bool) (index : ℕ) (ns name : List ℕ) (inside f : Forest) → is_dav ns name (codes "response") ≡ is_response
+pub gives_child : (is_response : Bool) (index : ℕ) (ns name : List ℕ) (inside f : Forest) → is_dav ns name (codes "response") ≡ is_response
     → ((i : ℕ) → Gives Multistatus i (events 2 f) (among f))
     → Gives Multistatus index (events 2 (Element ns name inside f)) (cond is_response (whole 2 ns name inside ∷ among f) (among f))
 gives_child true index ns name inside f e later =

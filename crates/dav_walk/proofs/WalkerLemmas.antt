@@ -39,7 +39,7 @@ stops lends w text piece lent a b k s = record {
   handed = k.handed;
 }
 
-gives_tree : (root : Root) (tree : Forest) (s : List ℕ) → document.Root tree s → Gives root 0 (events 1 tree) (responses root tree)
+pub gives_tree : (root : Root) (tree : Forest) (s : List ℕ) → document.Root tree s → Gives root 0 (events 1 tree) (responses root tree)
 gives_tree root tree s (alone t w ns a b c) = gives_responses root ns (local_of t.name) Nil
 gives_tree root tree s (full {inside = inside} t w v ns a b c d e) = gives_responses root ns (local_of t.name) inside
 

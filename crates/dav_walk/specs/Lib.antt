@@ -11,4 +11,6 @@ pub mod OpenedView
 pub mod Collecting
 pub mod Walking
 pub mod WalkerView
+pub mod Places
+pub mod SoFar
 pub mod WalkerInside

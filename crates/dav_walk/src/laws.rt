@@ -1,11 +1,19 @@
 //! Laws of the walk against the tree of a document. Each function is a law: its contract is what it says, and its body is empty.
 
-ghost use Rattle.std.specs.Prelude.{◌≡◌, ℕ, List, ◌+◌, length};
-ghost use Rattle.dav_doc.specs.Document.{Forest, Element, Nil, events};
+ghost use Rattle.std.specs.Prelude.{◌≡◌, ℕ, List, ◌+◌, ◌++◌, length};
+ghost use Rattle.dav_doc.specs.Document.{Forest, Element, Nil, IsDocument, events};
+ghost use Rattle.dav_xml.specs.declared.fault.XmlFault.{XmlFault};
+ghost use Rattle.dav_walk.specs.declared.fault.WalkFault.{WalkFault};
+ghost use Rattle.dav_walk.specs.declared.fault.WalkFault.TheVariants.{NoHref, BadStatus};
 ghost use Rattle.dav_walk.specs.declared.root.Root.{Root};
 ghost use Rattle.dav_walk.specs.Tree.{responses};
-ghost use Rattle.dav_walk.specs.Gathering.{Gathering, Goes, between, walk};
+ghost use Rattle.dav_walk.specs.Gathering.{Gathering, Goes, Fails, between, walk};
 ghost use Rattle.dav_walk.specs.Whole.{given, numbered};
+ghost use Rattle.dav_walk.specs.Lending.{Response};
+ghost use Rattle.dav_walk.specs.Walking.{GathersTo, Refuses};
+ghost use Rattle.dav_walk.specs.WalkerView.{Walking, HasWalked, HasStopped};
+ghost use Rattle.dav_walk.specs.Places.{placed, all_placed, ended_in};
+ghost use Rattle.dav_walk.specs.SoFar.{AreFirst, LacksHref, LacksStatus};
 
 /// The events of a tree give its responses, in document order.
 pub fn all_given()
@@ -22,4 +30,36 @@ pub fn walked_are_responses()
     ensures counted { (root : Root) (ns name : List ℕ) (inside : Forest) (g : Gathering)
         → (walk (between root 0) (events 1 (Element ns name inside Nil))).outcome ≡ Goes g
         → g ≡ between root (0 + length (responses root (Element ns name inside Nil))) }
+{}
+
+/// What a walker has lent so far are the first responses of every document that goes on with the bytes so far: while it goes on, where
+/// it was stopped, and at each fault.
+pub fn lent_are_first()
+    ensures going { (walker : Walking) (text t : List ℕ) (lent : List Response) (tree : Forest) → HasWalked walker text lent
+        → IsDocument tree (text ++ t) → AreFirst walker.root tree lent }
+    ensures stopped { (walker : Walking) (text t : List ℕ) (lent : List Response) (tree : Forest) → HasStopped walker text lent
+        → IsDocument tree (text ++ t) → AreFirst walker.root tree lent }
+    ensures refused { (root : Root) (text t : List ℕ) (byte : ℕ) (lent : List Response) (why : XmlFault) (tree : Forest) → Refuses root text byte lent why
+        → IsDocument tree (text ++ t) → AreFirst root tree lent }
+    ensures unfit { (root : Root) (text t : List ℕ) (lent : List Response) (fault : WalkFault) (tree : Forest) → GathersTo root text lent (Fails fault)
+        → IsDocument tree (text ++ t) → AreFirst root tree lent }
+{}
+
+/// They are exactly the responses of which the last byte lies in the bytes so far; at a fault of the text, exactly those of which it
+/// lies before the byte at fault. The places are of all responses of the document.
+pub fn lent_end_in_the_text()
+    ensures going { (walker : Walking) (text t : List ℕ) (lent : List Response) (tree : Forest) → HasWalked walker text lent
+        → (d : IsDocument tree (text ++ t)) → lent ≡ ended_in 0 (length text) (placed walker.root d) }
+    ensures refused { (root : Root) (text t : List ℕ) (byte : ℕ) (lent : List Response) (why : XmlFault) (tree : Forest) → Refuses root text byte lent why
+        → (d : IsDocument tree (text ++ t)) → lent ≡ ended_in 0 (length text) (placed root d) }
+    ensures all { (root : Root) (text : List ℕ) (tree : Forest) → (d : IsDocument tree text) → all_placed (placed root d) ≡ responses root tree }
+{}
+
+/// A walk of a multistatus that ends for want of an `href`, or for a bad `status`, does so at the response with that number, of every
+/// document that goes on with the bytes so far: all before it were lent, and it has none, or one that is no status line.
+pub fn unfit_responses()
+    ensures href { (root : Root) (text t : List ℕ) (lent : List Response) (index : ℕ) (tree : Forest) → GathersTo root text lent (Fails (NoHref index))
+        → IsDocument tree (text ++ t) → LacksHref root tree index lent }
+    ensures status { (root : Root) (text t : List ℕ) (lent : List Response) (index : ℕ) (tree : Forest) → GathersTo root text lent (Fails (BadStatus index))
+        → IsDocument tree (text ++ t) → LacksStatus root tree index lent }
 {}

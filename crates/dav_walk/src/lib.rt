@@ -19,7 +19,9 @@ mod walker;
 pub use fault::WalkFault;
 pub use found::Found;
 pub use handler::{Handler, Next};
-pub use laws::{all_given, walked_are_responses};
+pub use laws::{
+    all_given, lent_are_first, lent_end_in_the_text, unfit_responses, walked_are_responses,
+};
 pub use node::{Node, Span};
 pub use props::{Prop, Props};
 pub use root::Root;

@@ -83,7 +83,8 @@ fn pass<H: Handler>(
         → IfErr result (λ fault. Ends H.lends root text piece.now lent handler.old handler.new fault) }
 {
     let mut rest = piece;
-    for _ in 0..u64::MAX {
+    // Each turn takes bytes, or lends the end of an empty element that was waiting.
+    loop {
         let fed = match scan.feed(rest) {
             Ok(fed) => fed,
             Err(fault) => return Err(of_xml(fault)),
@@ -98,7 +99,6 @@ fn pass<H: Handler>(
         }
         rest = &rest[fed.used..];
     }
-    Err(WalkFault::Memory)
 }
 
 impl Walker {

@@ -8,3 +8,4 @@ pub mod OverLemmas
 pub mod FeedLemmas
 pub mod ScanLemmas
 pub mod LawLemmas
+pub mod PieceLemmas

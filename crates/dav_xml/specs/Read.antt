@@ -1,5 +1,5 @@
 -- What a scanner has read, and where it stops.
-use Rattle.std.specs.Prelude.{◌≡◌, ℕ, ◌≤◌, false, List, ◌∷◌, ◌++◌, length, take, Some, None}
+use Rattle.std.specs.Prelude.{◌≡◌, ℕ, ◌≤◌, ◌<◌, ◌⊎◌, true, false, List, ◌∷◌, ◌++◌, length, take, Some, None}
 use Rattle.dav_doc.specs.Document as document
 use Rattle.dav_doc.specs.Machine.{State}
 use Rattle.dav_markup.specs.Owing.{owed_in}
@@ -34,6 +34,14 @@ pub record Feeds (text : List ℕ) (given : List document.Event) (piece : List �
   pub read : HasRead scan (text ++ take fed.used piece) (given ++ lent scan)
   pub ready : fed.ready ≡ is_ready scan.lent
   pub all : fed.ready ≡ false → fed.used ≡ length piece
+
+-- how many events are still to be lent of those that the last byte gave: the end of an empty element, or none
+abbrev pub waiting : Scan → ℕ
+waiting scan = length (later_in scan.lent)
+
+-- where an event is ready, a byte was taken, or the event that was waiting is lent and none is waiting now
+abbrev pub Advances : Scan → Fed → Scan → Type 0
+Advances old fed new = fed.ready ≡ true → (0 < fed.used) ⊎ ((waiting old ≡ 1) × (waiting new ≡ 0))
 
 -- why no scanner goes on with the byte behind that text
 abbrev pub Why : List ℕ → Stand → ℕ → XmlFault → Type 0

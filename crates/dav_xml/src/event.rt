@@ -1,4 +1,4 @@
-ghost use Rattle.std.specs.Prelude.{◌≡◌, true, [], MatchOption};
+ghost use Rattle.std.specs.Prelude.{◌≡◌, true, [], length, MatchOption};
 ghost use Rattle.dav_xml.specs.Events.{lent_in, later_in, event_in, is_ready as is_ready_lem};
 
 use dav_markup::few::Few;
@@ -65,7 +65,7 @@ impl Lent {
 
     /// What is to be lent next: the end of an empty element. None where nothing is.
     pub(crate) fn later(&self) -> Option<Lent>
-        ensures { MatchOption result (later_in self.now ≡ []) (λ later. (lent_in later ≡ later_in self.now) × (later_in later ≡ []) × (is_ready_lem later ≡ true)) }
+        ensures { MatchOption result (later_in self.now ≡ []) (λ later. (lent_in later ≡ later_in self.now) × (later_in later ≡ []) × (is_ready_lem later ≡ true) × (length (later_in self.now) ≡ 1)) }
     {
         match self {
             Lent::Start {

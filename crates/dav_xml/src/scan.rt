@@ -5,7 +5,7 @@ ghost use Rattle.dav_doc.specs.Document as document;
 ghost use Rattle.dav_doc.specs.Document.{Forest, IsDocument, events};
 ghost use Rattle.dav_xml.specs.Ending.{is_over as is_over_lem, is_whole as is_whole_lem};
 ghost use Rattle.dav_xml.specs.Events.{lent_in, later_in, event_in};
-ghost use Rattle.dav_xml.specs.Read.{HasRead, Feeds, Stops, Fails, lent};
+ghost use Rattle.dav_xml.specs.Read.{HasRead, Feeds, Advances, Stops, Fails, lent};
 
 use crate::event::{Event, Lent};
 use crate::fault::XmlFault;
@@ -145,7 +145,9 @@ impl Scan {
     }
 
     /// Takes bytes of the piece up to the first event, which is then ready. Where none is ready the
-    /// whole piece was taken. The document is the pieces joined, each without what was left of it.
+    /// whole piece was taken; where one is ready and no byte was taken, it is the end of the empty
+    /// element whose start was ready before. So the calls for a piece come to an end. The document is
+    /// the pieces joined, each without what was left of it.
     ///
     /// # Errors
     ///
@@ -157,6 +159,7 @@ impl Scan {
         ensures goes { (text : List ℕ) (given : List document.Event) → HasRead self.old text given → IfOk result (λ fed. Feeds text given piece.now fed self.new) }
         ensures stops { (text : List ℕ) (given : List document.Event) → HasRead self.old text given
             → IfErr result (λ fault. (fault ≡ XmlFault.Memory) ⊎ Stops text given piece.now fault) }
+        ensures advances { IfOk result (λ fed. Advances self.old fed self.new) }
         ensures fails { IfErr result (λ fault. self.new.fault ≡ Some fault) }
         ensures same { (fault : XmlFault) → self.old.fault ≡ Some fault → result ≡ Err fault }
     {

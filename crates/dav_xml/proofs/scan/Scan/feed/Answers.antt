@@ -1,4 +1,4 @@
-use Rattle.std.proofs.Common.{refl, ap, sym, ◌∙◌, arith, Err}
+use Rattle.std.proofs.Common.{refl, ap, sym, ◌∙◌, arith, Err, inl, inr, length}
 use Rattle.dav_xml.proofs.FeedLemmas.{fed_none, fed_more, fed_ready, fed_all, fed_later, stopped, going_not, fed_stops}
 use Rattle.dav_xml.proofs.scan.Scan.feed.Goals as goal
 
@@ -62,3 +62,12 @@ returns-clause-goes c = λ text given h.
 
 pub returns-clause-same : goal.returns-clause-same
 returns-clause-same c = λ fault e. absurd (c.in_default.not-Some fault e)
+
+pub returns-in-Some-later-clause-advances : goal.returns-in-Some-later-clause-advances
+returns-in-Some-later-clause-advances c = λ r. inr (c.in-Some-later.ensures.3, ap length c.in-Some-later.ensures.1)
+
+pub returns-then-is_ready-clause-advances : goal.returns-then-is_ready-clause-advances
+returns-then-is_ready-clause-advances c = λ r. inl (omega arith)
+
+pub returns-clause-advances : goal.returns-clause-advances
+returns-clause-advances c = λ r. absurd cc
