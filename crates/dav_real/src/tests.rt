@@ -1,7 +1,6 @@
 use crate::FolderDisk;
 use dav_disk::{Disk, Failed};
-use std::fs;
-use std::io;
+use std::{fs, io};
 
 /// The folder that the tests fill, in the one for what is built.
 const FOLDER: &str = "out/folder_disk";
