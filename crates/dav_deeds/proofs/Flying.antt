@@ -132,10 +132,12 @@ taken_within t flight w of =
     let both : sum_by (in_file flight.body.file) (bodies_of t) ≡ weight (of_entry (in_file flight.body.file)) t.entries + sum_by (λ (l : LostItem). in_file flight.body.file l.body) t.lost = bodies_weight (in_file flight.body.file) t in
     let few : sum_by (in_file flight.body.file) (bodies_of t) ≤ 1 = w.files_differ flight.body.file in
     let known : EachBody (λ (b : BodyId). b.file < t.next_file) t.entries t.lost = each_body (λ (b : BodyId). b.file < t.next_file) t w.files_known in
+    let begun : EachBody (λ (b : BodyId). 2 ≤ b.file) t.entries t.lost = each_body (λ (b : BodyId). 2 ≤ b.file) t w.files_begin in
     record {
       bare = subst IsBare of.path_is (every_at (λ (x : Item). IsBare x.path) t.entries of.item w.in_order.paths of.among);
       queued = not_none (queued_at flight.path t.entries) flight.body
           (subst (λ (p : PathParts). queued_at p t.entries ≡ Some flight.body) of.path_is (ap (option_and_then queued_body) (at_found t.entries of.item w.in_order.differ of.among) ∙ of.body_is));
+      file_begins = every_at (λ (x : Item). OfBody (λ (b : BodyId). 2 ≤ b.file) x.entry) t.entries of.item begun.kept of.among flight.body body_of;
       file_known = every_at (λ (x : Item). OfBody (λ (b : BodyId). b.file < t.next_file) x.entry) t.entries of.item known.kept of.among flight.body body_of;
       owned = every_weaker (λ (y : Item). (c : BodyId) → y.entry.body ≡ Some c → c.file ≡ flight.body.file → same_path of.item.path y.path ≡ true) (IsOwn flight) t.entries
           (λ y own. record { own = λ c on in_it. subst (λ (p : PathParts). same_path p y.path ≡ true) of.path_is (own c on in_it) })
@@ -153,6 +155,7 @@ waited_flight t None flight h = h
 waited_flight t (Some w) flight h = record {
   bare = h.bare;
   queued = λ none. h.queued (sym (waited_queued flight.path t (Some w)) ∙ none);
+  file_begins = h.file_begins;
   file_known = h.file_known;
   owned = changed_items w.path (waiting_so w.waiting) (IsOwn flight) (λ x own. record { own = own.own }) t.entries h.owned;
   not_lost = h.not_lost;
@@ -165,6 +168,7 @@ closed_flight t q body flight file h = record {
   queued = by_test (same_path flight.path q)
       (λ is. not_none (queued_at flight.path (replay t (Closed (bare q) body)).entries) body (closed_here flight.path q body t is))
       (λ off none. h.queued (sym (closed_other flight.path q body t off) ∙ none));
+  file_begins = h.file_begins;
   file_known = omega (arith, h.file_known);
   owned = entry_items (bare q) (closed_entry body (t.records + 1) (entry_at (bare q) t.entries)) (IsOwn flight)
       (λ p. record { own = λ c on in_it. let same : body ≡ c = same_some body c on in absurd (omega (arith, ap (λ (b : BodyId). b.file) same, in_it, file, h.file_known)) }) t.entries h.owned;
@@ -179,6 +183,7 @@ pub forgot_flight : (t : Table) (q : PathParts) (locks below : Bool) (flight : F
 forgot_flight t q locks below flight none h = record {
   bare = h.bare;
   queued = λ gone. h.queued (sym (forgot_queued flight.path q locks below t none) ∙ gone);
+  file_begins = h.file_begins;
   file_known = omega (arith, h.file_known);
   owned = without_each q below (IsOwn flight) t.entries h.owned;
   not_lost = h.not_lost;

@@ -9,7 +9,7 @@ use Rattle.dav_text.specs.Path.{PathParts, IsPath}
 use Rattle.dav_store.specs.declared.body_id.BodyId.{BodyId}
 use Rattle.dav_index.specs.Item.{Item}
 use Rattle.dav_index.specs.Items.{has_path, with_changed, goes_with}
-use Rattle.dav_index.specs.Tables.{replay, waiting_so}
+use Rattle.dav_index.specs.Tables.{replay, with_waiting}
 use Rattle.dav_index.specs.declared.entry.Entry.{Entry}
 use Rattle.dav_index.specs.declared.entry.Waiting.{Waiting}
 use Rattle.dav_index.specs.declared.record.Record.{Record}
@@ -17,11 +17,19 @@ use Rattle.dav_index.specs.declared.record.Record.TheVariants.{Closed, Forgot}
 use Rattle.dav_index.specs.declared.table.Table.{Table}
 use Rattle.dav_deeds.specs.declared.desk_table.DeskTable.TheInside.{Inside}
 use Rattle.dav_deeds.specs.DeskTable.{DeskTable}
-use Rattle.dav_deeds.specs.DeskView.{table_of, IsHeld}
-use Rattle.dav_deeds.specs.Effects.{Effect, quiet, bare, file_of, files_of, is_flying, grounded, going, forgot_record, waiting_at, taken, fated_of, record_of_fate, wait_of_fate, settle_by_fate, settle_effect, store_effect, effect_unless, effect_of, waited, recorded, changed}
+use Rattle.dav_deeds.specs.DeskView.{table_of}
+use Rattle.dav_deeds.specs.Sound.{IsSound}
+use Rattle.dav_deeds.proofs.Sounds.{after_sound}
+use Rattle.dav_deeds.specs.Effects.{Effect, Wait, quiet, file_of, files_of, is_flying, grounded, going, forgot_record, waiting_at, taken, take_effect, fated_of, wait_of_fate, settle_by_fate, settle_effect, effect_unless, effect_of, waited, recorded, changed, after}
+use Rattle.dav_deeds.specs.Change.{CanNote, Notes, IsWaiting, job_with, jobs_with, IsChange, CanChange, IsPlannedBy, IsPlan}
+use Rattle.dav_deeds.specs.declared.answer.Told.TheVariants.{Idle}
+use Rattle.dav_deeds.specs.declared.plan.Change.{Change}
+use Rattle.dav_deeds.specs.declared.plan.Planned.{Planned}
+use Rattle.dav_deeds.specs.declared.plan.Noting.{Noting}
+use Rattle.dav_deeds.specs.declared.plan.Waits.{Waits}
 use Rattle.dav_deeds.specs.Refusals.{store_refusal, queued_with, queued_fault, job_fault, refusal_of}
 use Rattle.dav_deeds.specs.Legal.{body_unless, deed_of, IsDone}
-use Rattle.dav_deeds.specs.Made.{IsMadeBy, IsMade, tried_by, wait_by, file_unless, file_going}
+use Rattle.dav_deeds.specs.Made.{IsMadeBy, wait_by, file_unless, file_going}
 use Rattle.dav_deeds.specs.declared.answer.Fated.{Fated}
 use Rattle.dav_deeds.specs.declared.answer.Fated.TheVariants as fates
 use Rattle.dav_deeds.specs.declared.answer.Flight.{Flight}
@@ -34,56 +42,28 @@ use Rattle.dav_deeds.specs.declared.deed.Deed.TheVariants as deeds
 use Rattle.dav_deeds.specs.declared.deed.Mark.TheVariants as marks
 use Rattle.dav_deeds.specs.declared.fault.DeskFault.{DeskFault}
 use Rattle.dav_deeds.specs.declared.fault.DeskFault.TheVariants.{NoSuchJob}
-use Rattle.dav_deeds.specs.declared.made.Made.{Made}
-use Rattle.dav_deeds.specs.Sound.{IsSound}
-use Rattle.dav_deeds.proofs.Restart.{head_changed, none_changed}
 use Rattle.dav_deeds.proofs.Paths.{by_test}
-use Rattle.dav_deeds.proofs.Sounds.{store_sound, forget_sound, take_sound, settle_sound}
-
--- a change of the entry of a path, its slash aside
-changed_bare : (q : PathParts) (f : Entry → Entry) (items : List Item) → with_changed q f items ≡ with_changed (bare q) f items
-changed_bare q f [] = none_changed q f ∙ sym (none_changed (bare q) f)
-changed_bare q f (x ∷ xs) = by (has_path q x) refl (changed_bare q f xs)
-  where
-    by : (b : Bool) → has_path q x ≡ b → with_changed q f xs ≡ with_changed (bare q) f xs → with_changed q f (x ∷ xs) ≡ with_changed (bare q) f (x ∷ xs)
-    by true is ih = head_changed q f x xs true is ∙ sym (head_changed (bare q) f x xs true is)
-    by false is ih = head_changed q f x xs false is ∙ ap (λ (l : List Item). x ∷ l) ih ∙ sym (head_changed (bare q) f x xs false is)
-
--- the table of the index once a path was closed
-pub closed_index : (t r : Table) (q p : PathParts) (body : BodyId) (w : Waiting) (items : List Item) → p ≡ bare q → r ≡ replay t (Closed p body) → items ≡ with_changed q (waiting_so w) r.entries
-    → record r { entries = items } ≡ waited (replay t (Closed (bare q) body)) (Some (record { path = bare q; waiting = w }))
-closed_index t r q p body w items path replayed written =
-    let same : r ≡ replay t (Closed (bare q) body) = replayed ∙ ap (λ (p : PathParts). replay t (Closed p body)) path in
-    ap (λ (l : List Item). record r { entries = l }) (written ∙ changed_bare q (waiting_so w) r.entries)
-    ∙ ap (λ (u : Table). record u { entries = with_changed (bare q) (waiting_so w) u.entries }) same
-
--- a close keeps what is true of the parts of a desk
-pub close_held : (d : Inside) (q : PathParts) (len now : ℕ) (body : BodyId) (u : Table) → IsPath q → store_refusal d.index q len ≡ None → body.file ≡ d.index.next_file → body.len ≡ len → length body.sum ≡ 32 → IsHeld d
-    → u ≡ (changed (table_of d) (store_effect (table_of d) q now (Some body))).index → IsHeld (record d { index = u })
-close_held d q len now body u is free file same sum held at =
-    subst (λ (v : Table). IsSound (record { index = v; job = d.job; jobs = d.jobs; stopping = d.stopping })) (sym at)
-    (store_sound (table_of d) held now q len (Some body) is free (file, same, sum))
 
 -- an ask that is refused
-pub refused_is : (t : DeskTable) (who : Who) (now : ℕ) (ask : Ask) (deed : Deed) (fault : DeskFault) (made : Made) (row : List ℕ) → deed_of t ask ≡ deed → refusal_of t deed ≡ Some fault → row ≡ []
-    → IsMadeBy t who now deed (quiet t (marks.Refused fault) None) made [] t → IsMade t who now ask (Some made) row t
-refused_is t who now ask deed fault made row asked refused blank h =
-    subst (λ (d : Deed). IsMadeBy t who now d (effect_of t now d) made row t) (sym asked)
-    (subst (λ (r : Option DeskFault). IsMadeBy t who now deed (effect_unless r t now deed) made row t) (sym refused)
-    (subst (λ (l : List ℕ). IsMadeBy t who now deed (quiet t (marks.Refused fault) None) made l t) (sym blank) h))
+pub refused_is : (t : DeskTable) (who : Who) (now : ℕ) (ask : Ask) (deed : Deed) (fault : DeskFault) (planned : Planned) (row : List ℕ) → deed_of t ask ≡ deed → refusal_of t deed ≡ Some fault → row ≡ []
+    → IsPlannedBy t who now deed (quiet t (marks.Refused fault) None) planned [] → IsPlan t who now ask (Some planned) row
+refused_is t who now ask deed fault planned row asked refused blank h =
+    subst (λ (d : Deed). IsPlannedBy t who now d (effect_of t now d) planned row) (sym asked)
+    (subst (λ (r : Option DeskFault). IsPlannedBy t who now deed (effect_unless r t now deed) planned row) (sym refused)
+    (subst (λ (l : List ℕ). IsPlannedBy t who now deed (quiet t (marks.Refused fault) None) planned l) (sym blank) h))
 
 store_refused : (t : DeskTable) (q p : PathParts) (bytes : List ℕ) (fault : DeskFault) → p ≡ q → store_refusal t.index q (length bytes) ≡ Some fault → deed_of t (asks.Store q bytes) ≡ deeds.Store p (length bytes) None
 store_refused t q p bytes fault same refused =
     ap (λ (r : Option DeskFault). deeds.Store q (length bytes) (body_unless r (id_of t.index.next_file bytes))) refused
     ∙ ap (λ (p : PathParts). deeds.Store p (length bytes) None) (sym same)
 
-pub store_is : (t : DeskTable) (who : Who) (now : ℕ) (q p : PathParts) (len : ℕ) (bytes : List ℕ) (fault : DeskFault) (made : Made) (row : List ℕ) → p ≡ q → len ≡ length bytes → store_refusal t.index q len ≡ Some fault → row ≡ []
-    → IsMadeBy t who now (deeds.Store p len None) (quiet t (marks.Refused fault) None) made [] t → IsMade t who now (asks.Store q bytes) (Some made) row t
-store_is t who now q p len bytes fault made row same length_is refused blank h =
+pub store_is : (t : DeskTable) (who : Who) (now : ℕ) (q p : PathParts) (len : ℕ) (bytes : List ℕ) (fault : DeskFault) (planned : Planned) (row : List ℕ) → p ≡ q → len ≡ length bytes → store_refusal t.index q len ≡ Some fault → row ≡ []
+    → IsPlannedBy t who now (deeds.Store p len None) (quiet t (marks.Refused fault) None) planned [] → IsPlan t who now (asks.Store q bytes) (Some planned) row
+store_is t who now q p len bytes fault planned row same length_is refused blank h =
     let refused' : store_refusal t.index q (length bytes) ≡ Some fault = subst (λ (n : ℕ). store_refusal t.index q n ≡ Some fault) length_is refused in
-    refused_is t who now (asks.Store q bytes) (deeds.Store p (length bytes) None) fault made row (store_refused t q p bytes fault same refused')
+    refused_is t who now (asks.Store q bytes) (deeds.Store p (length bytes) None) fault planned row (store_refused t q p bytes fault same refused')
     (ap (λ (p : PathParts). store_refusal t.index p (length bytes)) same ∙ refused') blank
-    (subst (λ (n : ℕ). IsMadeBy t who now (deeds.Store p n None) (quiet t (marks.Refused fault) None) made [] t) length_is h)
+    (subst (λ (n : ℕ). IsPlannedBy t who now (deeds.Store p n None) (quiet t (marks.Refused fault) None) planned []) length_is h)
 
 -- a settling of the job in flight
 settled_effect : (t : DeskTable) (now job : ℕ) (done : Done) (flight : Flight) → t.job ≡ Some flight → flight.number ≡ job → effect_of t now (deeds.Settle job done) ≡ settle_by_fate t flight done (fated_of t.index flight now done)
@@ -94,16 +74,16 @@ settled_effect t now job done flight flies same =
     free : job_fault job t.job ≡ None
     free = ap (job_fault job) flies ∙ ap (λ (b : Bool). if b then None else Some (NoSuchJob job)) (eq-eqb flight.number job same)
 
-pub settle_is : (t : DeskTable) (who : Who) (now job : ℕ) (done : Done) (flight : Flight) (made : Made) (row : List ℕ) (u : DeskTable) → t.job ≡ Some flight → flight.number ≡ job
-    → IsMadeBy t who now (deeds.Settle job done) (settle_by_fate t flight done (fated_of t.index flight now done)) made row u → IsMade t who now (asks.Settle job done) (Some made) row u
-settle_is t who now job done flight made row u flies same h =
-    subst (λ (e : Effect). IsMadeBy t who now (deeds.Settle job done) e made row u) (sym (settled_effect t now job done flight flies same)) h
+pub settle_is : (t : DeskTable) (who : Who) (now job : ℕ) (done : Done) (flight : Flight) (planned : Planned) (row : List ℕ) → t.job ≡ Some flight → flight.number ≡ job
+    → IsPlannedBy t who now (deeds.Settle job done) (settle_by_fate t flight done (fated_of t.index flight now done)) planned row → IsPlan t who now (asks.Settle job done) (Some planned) row
+settle_is t who now job done flight planned row flies same h =
+    subst (λ (e : Effect). IsPlannedBy t who now (deeds.Settle job done) e planned row) (sym (settled_effect t now job done flight flies same)) h
 
 -- a settling of another job
-pub no_job : (t : DeskTable) (who : Who) (now job : ℕ) (done : Done) (made : Made) (row : List ℕ) → ((flight : Flight) → t.job ≡ Some flight → flight.number ≢ job) → row ≡ []
-    → IsMadeBy t who now (deeds.Settle job done) (quiet t (marks.Refused (NoSuchJob job)) None) made [] t → IsMade t who now (asks.Settle job done) (Some made) row t
-no_job t who now job done made row other blank h =
-    refused_is t who now (asks.Settle job done) (deeds.Settle job done) (NoSuchJob job) made row refl (by t.job refl) blank h
+pub no_job : (t : DeskTable) (who : Who) (now job : ℕ) (done : Done) (planned : Planned) (row : List ℕ) → ((flight : Flight) → t.job ≡ Some flight → flight.number ≢ job) → row ≡ []
+    → IsPlannedBy t who now (deeds.Settle job done) (quiet t (marks.Refused (NoSuchJob job)) None) planned [] → IsPlan t who now (asks.Settle job done) (Some planned) row
+no_job t who now job done planned row other blank h =
+    refused_is t who now (asks.Settle job done) (deeds.Settle job done) (NoSuchJob job) planned row refl (by t.job refl) blank h
   where
     by : (o : Option Flight) → t.job ≡ o → job_fault job o ≡ Some (NoSuchJob job)
     by None is = refl
@@ -116,26 +96,9 @@ waits_same t flight fates.Superseded = refl
 waits_same t flight (fates.Waits n due) = refl
 waits_same t flight (fates.Lost n) = refl
 
-pub landed_index : (d : Inside) (flight : Flight) (now : ℕ) (done : Done) (fated : Fated) (tried : Bool) (found : Option Record) (r u : Table) → fated ≡ fated_of d.index flight now done → tried ≡ (waiting_at flight.path d.index.entries).tried
-    → found ≡ record_of_fate flight done fated → r ≡ recorded d.index found → u ≡ waited r (wait_by flight tried fated) → u ≡ (changed (table_of d) (settle_by_fate (table_of d) flight done (fated_of d.index flight now done))).index
-landed_index d flight now done fated tried found r u fate was record_is noted waits =
-    waits
-    ∙ ap (λ (v : Table). waited v (wait_by flight tried fated)) (noted ∙ ap (recorded d.index) record_is)
-    ∙ ap (λ (b : Bool). waited (recorded d.index (record_of_fate flight done fated)) (wait_by flight b fated)) was
-    ∙ ap (waited (recorded d.index (record_of_fate flight done fated))) (waits_same d.index flight fated)
-    ∙ ap (λ (f : Fated). waited (recorded d.index (record_of_fate flight done f)) (wait_of_fate d.index flight f)) fate
-
-pub landed_sound : (d : Inside) (flight : Flight) (now : ℕ) (done : Done) (u : Table) → IsSound (table_of d) → d.job ≡ Some flight → IsDone done → u ≡ (changed (table_of d) (settle_by_fate (table_of d) flight done (fated_of d.index flight now done))).index
-    → IsSound (record { index = u; job = None; jobs = d.jobs; stopping = d.stopping })
-landed_sound d flight now done u sound flies noted at =
-    subst (λ (v : Table). IsSound (record { index = v; job = None; jobs = d.jobs; stopping = d.stopping })) (sym at)
-    (settle_sound (table_of d) sound (Some flight) now done flies noted)
-
-pub flown_sound : (d : Inside) (flight : Flight) (now : ℕ) (u : Table) → IsSound (table_of d) → taken (table_of d) now ≡ Some flight → u ≡ waited d.index (tried_by d.stopping d.index flight)
-    → IsSound (record { index = u; job = Some flight; jobs = flight.number; stopping = d.stopping })
-flown_sound d flight now u sound is at =
-    subst (λ (v : Table). IsSound (record { index = v; job = Some flight; jobs = flight.number; stopping = d.stopping })) (sym at)
-    (take_sound (table_of d) sound now (Some flight) is)
+pub lands_waiting : (t : Table) (flight : Flight) (fated fate : Fated) (tried : Bool) (waits : Option Waits) → fated ≡ fate → tried ≡ (waiting_at flight.path t.entries).tried → IsWaiting (wait_by flight tried fated) waits → IsWaiting (wait_of_fate t flight fate) waits
+lands_waiting t flight fated fate tried waits same was h =
+    subst (λ (o : Option Wait). IsWaiting o waits) (ap (λ (b : Bool). wait_by flight b fated) was ∙ waits_same t flight fated ∙ ap (wait_of_fate t flight) same) h
 
 -- the record of what is forgotten, by whether anything goes
 pub none_goes : (q : PathParts) (locks below : Bool) (items : List Item) → list_any (goes_with q below) items ≡ false → None ≡ forgot_record q locks below (going q below items)
@@ -183,14 +146,78 @@ going_more job q below xs i x lt is =
     ∙ filter-append (λ (file : ℕ). not (is_flying job file)) (files_of (going q below (take i xs))) (files_of (if goes_with q below x then x ∷ [] else []))
     ∙ ap (λ (l : List ℕ). grounded job (files_of (going q below (take i xs))) ++ l) (one_goes job q below x)
 
-pub left_sound : (d : Inside) (q : PathParts) (locks below : Bool) (u : Table) → IsSound (table_of d) → queued_with q below d.index.entries ≡ None → u ≡ recorded d.index (forgot_record q locks below (going q below d.index.entries))
-    → IsSound (record { index = u; job = d.job; jobs = d.jobs; stopping = d.stopping })
-left_sound d q locks below u sound free at =
-    subst (λ (v : Table). IsSound (record { index = v; job = d.job; jobs = d.jobs; stopping = d.stopping })) (sym at)
-    (forget_sound (table_of d) sound q locks below free)
+pub forget_is : (t : DeskTable) (who : Who) (now : ℕ) (q p : PathParts) (locks below : Bool) (fault : DeskFault) (planned : Planned) (row : List ℕ) → p ≡ q → queued_fault (queued_with q below t.index.entries) ≡ Some fault → row ≡ []
+    → IsPlannedBy t who now (deeds.Forget p locks below) (quiet t (marks.Refused fault) None) planned [] → IsPlan t who now (asks.Forget q locks below) (Some planned) row
+forget_is t who now q p locks below fault planned row same refused blank h =
+    refused_is t who now (asks.Forget q locks below) (deeds.Forget q locks below) fault planned row refl refused blank
+    (subst (λ (p : PathParts). IsPlannedBy t who now (deeds.Forget p locks below) (quiet t (marks.Refused fault) None) planned []) same h)
 
-pub forget_is : (t : DeskTable) (who : Who) (now : ℕ) (q p : PathParts) (locks below : Bool) (fault : DeskFault) (made : Made) (row : List ℕ) → p ≡ q → queued_fault (queued_with q below t.index.entries) ≡ Some fault → row ≡ []
-    → IsMadeBy t who now (deeds.Forget p locks below) (quiet t (marks.Refused fault) None) made [] t → IsMade t who now (asks.Forget q locks below) (Some made) row t
-forget_is t who now q p locks below fault made row same refused blank h =
-    refused_is t who now (asks.Forget q locks below) (deeds.Forget q locks below) fault made row refl refused blank
-    (subst (λ (p : PathParts). IsMadeBy t who now (deeds.Forget p locks below) (quiet t (marks.Refused fault) None) made [] t) same h)
+-- a change that was planned is the one of its deed
+pub change_is : (t : DeskTable) (e : Effect) (c : Change) (r u : Table) → IsChange t e c → r ≡ recorded t.index e.on_record → u ≡ waited r e.waits
+    → record { index = u; job = job_with t.job c.job; jobs = jobs_with t.jobs c.job; stopping = c.stopping } ≡ changed t e
+change_is t e c r u is noted waits =
+    let index : u ≡ waited (recorded t.index e.on_record) e.waits = waits ∙ ap (λ (v : Table). waited v e.waits) noted in
+    ap (λ (v : Table). record { index = v; job = job_with t.job c.job; jobs = jobs_with t.jobs c.job; stopping = c.stopping }) index
+    ∙ ap (λ (j : Option Flight). record { index = waited (recorded t.index e.on_record) e.waits; job = j; jobs = jobs_with t.jobs c.job; stopping = c.stopping }) (sym is.job)
+    ∙ ap (λ (n : ℕ). record { index = waited (recorded t.index e.on_record) e.waits; job = e.job; jobs = n; stopping = c.stopping }) (sym is.jobs)
+    ∙ ap (λ (b : Bool). record { index = waited (recorded t.index e.on_record) e.waits; job = e.job; jobs = e.jobs; stopping = b }) (sym is.stopping)
+
+-- a take that finds nothing changes nothing
+pub idle_take : (t : DeskTable) (now : ℕ) → taken t now ≡ None → ((effect_of t now deeds.Take).told ≡ Some Idle) × (after t now deeds.Take ≡ t)
+idle_take t now none = (ap (λ (o : Option Flight). (take_effect t o).told) none, ap (λ (o : Option Flight). changed t (take_effect t o)) none)
+
+-- what is written and changed of a plan
+pub made_of_plan : (t : DeskTable) (who : Who) (now : ℕ) (deed : Deed) (planned : Planned) (row : List ℕ) (u : DeskTable) → IsPlannedBy t who now deed (effect_of t now deed) planned row → u ≡ after t now deed → IsMadeBy t who now deed (effect_of t now deed) planned.made row u
+made_of_plan t who now deed planned row u is at = record { step = is.step; answer = is.answer; released = is.released; row_is = is.row_is; after = at }
+
+-- what is noted, if anything is
+pub can_note : (t : Table) (noting : Option Noting) (n : Noting) → (found : Option Record) × Notes t found noting → noting ≡ Some n → CanNote t n.what n
+can_note t noting n ready is = by ready.0 (subst (λ (o : Option Noting). Notes t ready.0 o) is ready.1)
+  where
+    by : (found : Option Record) → Notes t found (Some n) → CanNote t n.what n
+    by None h = absurd h
+    by (Some r) h = subst (λ (x : Record). CanNote t x n) (sym h.what) h
+
+pub noted_is : (t u : Table) (n : Noting) (noting : Option Noting) → noting ≡ Some n → u ≡ replay t n.what → (found : Option Record) → Notes t found noting → u ≡ recorded t found
+noted_is t u n noting is replayed found notes = by found (subst (λ (o : Option Noting). Notes t found o) is notes)
+  where
+    by : (found : Option Record) → Notes t found (Some n) → u ≡ recorded t found
+    by None h = absurd h
+    by (Some r) h = replayed ∙ ap (λ (x : Record). replay t x) h.what
+
+pub not_noted_is : (t : Table) (noting : Option Noting) → noting ≡ None → (found : Option Record) → Notes t found noting → t ≡ recorded t found
+not_noted_is t noting is found notes = by found (subst (λ (o : Option Noting). Notes t found o) is notes)
+  where
+    by : (found : Option Record) → Notes t found None → t ≡ recorded t found
+    by None h = refl
+    by (Some r) h = absurd h
+
+-- how bytes wait, if that changes
+pub waits_is : (t u : Table) (w : Waits) (waits : Option Waits) → waits ≡ Some w → u ≡ with_waiting w.path w.waiting t → (found : Option Wait) → IsWaiting found waits → u ≡ waited t found
+waits_is t u w waits is written found waiting = by found (subst (λ (o : Option Waits). IsWaiting found o) is waiting)
+  where
+    by : (found : Option Wait) → IsWaiting found (Some w) → u ≡ waited t found
+    by None h = absurd h
+    by (Some wait) h = written ∙ ap (λ (p : PathParts). with_waiting p w.waiting t) h.0 ∙ ap (λ (x : Waiting). with_waiting wait.path x t) h.1
+
+pub not_waits_is : (t : Table) (waits : Option Waits) → waits ≡ None → (found : Option Wait) → IsWaiting found waits → t ≡ waited t found
+not_waits_is t waits is found waiting = by found (subst (λ (o : Option Waits). IsWaiting found o) is waiting)
+  where
+    by : (found : Option Wait) → IsWaiting found None → t ≡ waited t found
+    by None h = refl
+    by (Some wait) h = absurd h
+
+-- the table after a change that was planned
+module _ (d : Inside) (c : Change) (r u : Table) (job : Option Flight) (jobs : ℕ) (stopping : Bool)
+    (noted : (found : Option Record) → Notes d.index found c.noting → r ≡ recorded d.index found) (waits : (found : Option Wait) → IsWaiting found c.waits → u ≡ waited r found)
+    (job_is : job ≡ job_with d.job c.job) (jobs_is : jobs ≡ jobs_with d.jobs c.job) (stopping_is : stopping ≡ c.stopping) where
+  pub applied_is : (now : ℕ) (deed : Deed) → IsChange (table_of d) (effect_of (table_of d) now deed) c → record { index = u; job = job; jobs = jobs; stopping = stopping } ≡ after (table_of d) now deed
+  applied_is now deed is =
+      let e = effect_of (table_of d) now deed in
+      ap (λ (j : Option Flight). record { index = u; job = j; jobs = jobs; stopping = stopping }) job_is
+      ∙ ap (λ (n : ℕ). record { index = u; job = job_with d.job c.job; jobs = n; stopping = stopping }) jobs_is
+      ∙ ap (λ (b : Bool). record { index = u; job = job_with d.job c.job; jobs = jobs_with d.jobs c.job; stopping = b }) stopping_is
+      ∙ change_is (table_of d) e c r u is (noted e.on_record is.noting) (waits e.waits is.waits)
+
+  pub applied_sound : CanChange (table_of d) c → IsSound (table_of d) → IsSound (record { index = u; job = job; jobs = jobs; stopping = stopping })
+  applied_sound can sound = subst (λ (t : DeskTable). IsSound t) (sym (applied_is can.now can.deed can.change)) (after_sound (table_of d) sound can.now can.deed can.is_deed)

@@ -8,7 +8,7 @@ use Rattle.dav_text.specs.Path.{PathParts, IsPath}
 use Rattle.dav_text.specs.declared.tag.Seen.{Seen}
 use Rattle.dav_store.specs.declared.body_id.BodyId.{BodyId}
 use Rattle.dav_index.specs.Item.{Item}
-use Rattle.dav_index.specs.Items.{Every, entry_at, with_changed, with_entry, without_entry}
+use Rattle.dav_index.specs.Items.{Every, entry_at, goes_with, with_changed, with_entry, without_entry}
 use Rattle.dav_index.specs.Tables.{waiting_body, queued_body, queued_at, has_file, closed_entry, sent_entry, replay, waiting_so}
 use Rattle.dav_index.specs.Bounds.{bodies_of}
 use Rattle.dav_index.specs.declared.entry.Entry.{Entry}
@@ -255,3 +255,76 @@ module _ (t : DeskTable) (s : IsSound t) where
   spared now deed is file there =
       let none : (total file (after t now deed).index ≡ 0) × (is_flying (after t now deed).job file ≡ false) = unless_spares now deed (refusal_of t deed) refl is file there in
       ((λ id c. every_at (λ (b : BodyId). b.file ≢ file) (bodies_of (after t now deed).index) id (apart file (bodies_of (after t now deed).index) none.0) c), none.1)
+
+  -- and each is a file of bodies
+  abbrev Begins : Effect → Type 0
+  Begins e = (file : ℕ) → Contains e.released file → 2 ≤ file
+
+  none_begins : (e : Effect) → e.released ≡ [] → Begins e
+  none_begins e none file there = let c : Contains [] file = subst (λ (l : List ℕ). Contains l file) none there in absurd (omega (arith, c.1))
+
+  begun : EachBody (λ (b : BodyId). 2 ≤ b.file) t.index.entries t.index.lost
+  begun = each_body (λ (b : BodyId). 2 ≤ b.file) t.index s.index.files_begin
+
+  store_begins : (now : ℕ) (path : PathParts) (body : Option BodyId) → Begins (store_effect t path now body)
+  store_begins now path None file there = absurd (omega (arith, there.1))
+  store_begins now path (Some b) file there =
+      let g : Contains (file_of (body_at path t.index.entries)) file × (is_flying t.job file ≡ false) = grounded_of t.job (file_of (body_at path t.index.entries)) file there in
+      let f : (c : BodyId) × (body_at path t.index.entries ≡ Some c) × (c.file ≡ file) = file_in (body_at path t.index.entries) file g.0 in
+      let o : (old : Entry) × (entry_at path t.index.entries ≡ Some old) × (old.body ≡ Some f.0) = body_entry path t.index.entries f.0 f.1 in
+      let is : 2 ≤ f.0.file = each_found path (OfBody (λ (c : BodyId). 2 ≤ c.file)) t.index.entries o.0 o.1 begun.kept f.0 o.2 in
+      omega (arith, is, f.2)
+
+  files_begin : (items : List Item) (file : ℕ) → Every (λ (x : Item). OfBody (λ (c : BodyId). 2 ≤ c.file) x.entry) items → Contains (files_of items) file → 2 ≤ file
+  files_begin [] file each there = absurd (omega (arith, there.1))
+  files_begin (x ∷ xs) file each there = by (Contains-append_cases (file_of x.entry.body) (files_of xs) file there) (λ c. files_begin xs file each.1 c)
+    where
+      by : Contains (file_of x.entry.body) file ⊎ Contains (files_of xs) file → (Contains (files_of xs) file → 2 ≤ file) → 2 ≤ file
+      by (inl c) ih =
+          let f : (b : BodyId) × (x.entry.body ≡ Some b) × (b.file ≡ file) = file_in x.entry.body file c in
+          let is : 2 ≤ f.0.file = each.0 f.0 f.1 in omega (arith, is, f.2)
+      by (inr c) ih = ih c
+
+  going_each : (path : PathParts) (below : Bool) (P : Item → Type 0) (items : List Item) → Every P items → Every P (going path below items)
+  going_each path below P [] h = tt
+  going_each path below P (x ∷ xs) h = by (goes_with path below x) (going_each path below P xs h.1)
+    where
+      by : (b : Bool) → Every P (going path below xs) → Every P (if b then x ∷ going path below xs else going path below xs)
+      by true ih = (h.0, ih)
+      by false ih = ih
+
+  forget_begins : (path : PathParts) (locks below : Bool) → Begins (forget_effect t path locks below)
+  forget_begins path locks below file there =
+      files_begin (going path below t.index.entries) file (going_each path below (λ (x : Item). OfBody (λ (c : BodyId). 2 ≤ c.file) x.entry) t.index.entries begun.kept)
+      (grounded_of t.job (files_of (going path below t.index.entries)) file there).0
+
+  fate_begins : (flight : Flight) (done : Done) (fated : Fated) → 2 ≤ flight.body.file → Begins (settle_by_fate t flight done fated)
+  fate_begins flight done fates.Clean is file there = absurd (omega (arith, there.1))
+  fate_begins flight done (fates.Waits n due) is file there = absurd (omega (arith, there.1))
+  fate_begins flight done (fates.Lost n) is file there = absurd (omega (arith, there.1))
+  fate_begins flight done fates.Superseded is file (zero, lt, at) = subst (λ n. 2 ≤ n) at is
+  fate_begins flight done fates.Superseded is file (suc k, lt, at) = absurd (omega arith)
+
+  settle_begins : (job : Option Flight) (now : ℕ) (done : Done) → t.job ≡ job → Begins (settle_effect t job now done)
+  settle_begins None now done same = none_begins (settle_effect t None now done) refl
+  settle_begins (Some flight) now done same =
+      let within : IsFlightWithin flight t.index = subst (λ (job : Option Flight). IsJobWithin job t.index) same s.job in
+      fate_begins flight done (fated_of t.index flight now done) within.file_begins
+
+  take_begins : (o : Option Flight) → Begins (take_effect t o)
+  take_begins None = none_begins (take_effect t None) refl
+  take_begins (Some flight) = none_begins (take_effect t (Some flight)) refl
+
+  done_begins : (now : ℕ) (deed : Deed) → Begins (effect_done t now deed)
+  done_begins now (Store path len body) = store_begins now path body
+  done_begins now (Forget path locks below) = forget_begins path locks below
+  done_begins now Take = take_begins (taken t now)
+  done_begins now (Settle number done) = settle_begins t.job now done refl
+  done_begins now Stop = none_begins (effect_done t now Stop) refl
+
+  pub released_begin : (now : ℕ) (deed : Deed) (file : ℕ) → Contains (released_of t now deed) file → 2 ≤ file
+  released_begin now deed file there = by (refusal_of t deed) there
+    where
+      by : (r : Option DeskFault) → Contains (effect_unless r t now deed).released file → 2 ≤ file
+      by (Some fault) c = absurd (omega (arith, c.1))
+      by None c = done_begins now deed file c

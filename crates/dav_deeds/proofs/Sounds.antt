@@ -288,6 +288,9 @@ module _ (t : DeskTable) (s : IsSound t) where
         },
       )
 
+  pub closed_record : (now : ℕ) (path : PathParts) (len : ℕ) (body : BodyId) → IsPath path → store_refusal t.index path len ≡ None → IsBodyUnless None t.index.next_file len (Some body) → IsRecord (records.Closed (bare path) body)
+  closed_record now path len body is free h = store_record now path len (Some body) is free h
+
   forget_record : (path : PathParts) (locks below : Bool) → IsPath path → (items : List Item) → Fits (forgot_record path locks below items)
   forget_record path locks below is [] = tt
   forget_record path locks below is (x ∷ xs) = is

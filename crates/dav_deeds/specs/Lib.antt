@@ -6,4 +6,5 @@ pub mod Legal
 pub mod Fate
 pub mod Sound
 pub mod Made
+pub mod Change
 pub mod DeskView

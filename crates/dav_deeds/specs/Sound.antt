@@ -1,5 +1,5 @@
 -- What every table of a desk holds to.
-use Rattle.std.specs.Prelude.{◌≡◌, ◌≢◌, ◌<◌, true, Option, Some, None}
+use Rattle.std.specs.Prelude.{◌≡◌, ◌≢◌, ◌<◌, ◌≤◌, true, Option, Some, None}
 use Rattle.dav_index.specs.Item.{Item}
 use Rattle.dav_index.specs.Items.{Every, same_path}
 use Rattle.dav_index.specs.Records.{IsBare}
@@ -15,10 +15,11 @@ use Rattle.dav_deeds.specs.DeskTable.{DeskTable}
 pub record IsOwn (flight : Flight) (item : Item) : Type 0 where
   pub own : (body : BodyId) → item.entry.body ≡ Some body → body.file ≡ flight.body.file → same_path flight.path item.path ≡ true
 
--- the path of a job in flight is queued, and no other path has bytes in its file
+-- the path of a job in flight is queued, its file is one of bodies, and no other path has bytes in it
 pub record IsFlightWithin (flight : Flight) (t : Table) : Type 0 where
   pub bare : IsBare flight.path
   pub queued : queued_at flight.path t.entries ≢ None
+  pub file_begins : 2 ≤ flight.body.file
   pub file_known : flight.body.file < t.next_file
   pub owned : Every (IsOwn flight) t.entries
   pub not_lost : Every (λ (item : LostItem). item.body.file ≢ flight.body.file) t.lost

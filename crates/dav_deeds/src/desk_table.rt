@@ -1,17 +1,20 @@
-ghost use Rattle.std.specs.Prelude.{◌≡◌, ◌≢◌, ◌+◌, ◌<◌, ◌^◌, ◌≤◌, [], length, IfOk, OnOk, OnErr, None, Some, option_map};
+ghost use Rattle.std.specs.Prelude.{◌≡◌, ℕ, ◌+◌, ◌<◌, ◌^◌, ◌≤◌, [], length, IfOk, OnOk, OnErr, Option, None, Some};
 ghost use Rattle.dav_text.specs.Path.{IsPath};
 ghost use Rattle.std.specs.List.{list_any};
 ghost use Rattle.dav_index.specs.Items.{goes_with};
-ghost use Rattle.dav_index.specs.Bounds.{IsWithin};
+ghost use Rattle.dav_index.specs.Bounds.{IsWithin, queued_count as queued_in};
 ghost use Rattle.dav_index.specs.Tables.{restarted};
-ghost use Rattle.dav_index.specs.Records.{IsRecord};
+ghost use Rattle.dav_index.specs.Records.{IsRecord, text_of};
+ghost use Rattle.dav_index.specs.declared.record.Record.{Record};
+ghost use Rattle.dav_deeds.specs.declared.deed.Deed.{Deed};
 ghost use Rattle.dav_deeds.specs.declared.ask.Ask.TheVariants as asks;
 ghost use Rattle.dav_deeds.specs.DeskTable.{started};
 ghost use Rattle.dav_deeds.specs.Refusals.{store_refusal, queued_with};
-ghost use Rattle.dav_deeds.specs.Effects.{bare, file_of, files_of, going, body_at as body_at_lem, is_flying, grounded, forgot_record as forgot_record_lem, mark_of_fate, record_of_fate, released_by_fate, fated_of, store_effect, forget_effect, taken, take_effect, settle_by_fate, stop_effect, waited, recorded};
-ghost use Rattle.dav_deeds.specs.Legal.{IsAsk, IsDone};
+ghost use Rattle.dav_deeds.specs.Effects.{Wait, after, quiet, effect_of, bare, file_of, files_of, going, body_at as body_at_lem, is_flying, grounded, forgot_record as forgot_record_lem, mark_of_fate, record_of_fate, released_by_fate, fated_of, store_effect, forget_effect, taken, take_effect, settle_by_fate, waited, recorded};
+ghost use Rattle.dav_deeds.specs.Legal.{IsAsk, IsDeed, IsDone};
 ghost use Rattle.dav_deeds.specs.Sound.{IsSound};
-ghost use Rattle.dav_deeds.specs.Made.{row_of, AreRecords, tried_by, wait_by as wait_by_lem, file_going as file_going_lem, IsMadeBy, IsMade};
+ghost use Rattle.dav_deeds.specs.Made.{row_of, AreRecords, tried_by, wait_by as wait_by_lem, file_going as file_going_lem, IsMade};
+ghost use Rattle.dav_deeds.specs.Change.{CanNote, Notes, IsWaiting, IsChange, CanChange, IsPlannedBy, IsPlan};
 
 use crate::answer::{Fated, Flight, Told};
 use crate::ask::{Ask, Done, Who};
@@ -21,7 +24,8 @@ use crate::fates::{fated, waiting_at};
 use crate::fault::DeskFault;
 use crate::made::{Made, refused};
 use crate::pause::later;
-use crate::queries::next_due;
+use crate::plan::{Change, NextJob, Noting, Planned, Waits, job_with, jobs_with};
+use crate::queries::{next_due, queued_count};
 use crate::refusals::{forget_fault, store_fault};
 use dav_index::{Held, Record, Table, Waiting};
 use dav_store::BodyId;
@@ -168,55 +172,111 @@ fn files_going(
     Ok(files)
 }
 
-// Does what the record says, if there is one, and writes its row.
-fn note(index: &mut Table, found: Option<Record>, row: &mut Vec<u8>) -> Result<(), Memory>
+// The record with the memory to note it, and its row.
+fn noting(index: &Table, what: Record, row: &mut Vec<u8>) -> Result<Noting, Memory>
+    requires is_record { IsRecord what }
+    requires blank { row.old.items ≡ [] }
+    ensures noting { IfOk result (λ noting. CanNote index.now what noting) }
+    ensures row { OnOk result (row.new.items ≡ text_of what) }
+{
+    let prepared = index.prepare(&what)?;
+    let number = next_row(index)?;
+    what.write(row)?;
+    Ok(Noting {
+        what,
+        row: number,
+        prepared,
+    })
+}
+
+// The same where there is a record, and no row where there is none.
+fn noting_if(
+    index: &Table,
+    found: Option<Record>,
+    row: &mut Vec<u8>,
+) -> Result<Option<Noting>, Memory>
     requires is_record { AreRecords found }
     requires blank { row.old.items ≡ [] }
-    ensures index { OnOk result (index.new ≡ recorded index.old found) }
+    ensures noting { IfOk result (λ noting. Notes index.now found noting) }
     ensures row { OnOk result (row.new.items ≡ row_of found) }
-    ensures err { OnErr result (index.new ≡ index.old) }
 {
     let Some(found) = found else {
-        return Ok(());
+        return Ok(None);
     };
-    let prepared = index.prepare(&found)?;
-    let next = next_row(index)?;
-    found.write(row)?;
-    index.replay_prepared(next, &found, prepared);
-    Ok(())
+    let noting = noting(index, found, row)?;
+    Ok(Some(noting))
 }
 
 // The bytes of the job count as tried, where the desk is about to end.
-fn mark_tried(index: &mut Table, stopping: bool, flight: &Flight)
-    ensures { index.new ≡ waited index.old (tried_by stopping index.old flight.now) }
+fn tried_if(
+    alloc: Global,
+    index: &Table,
+    stopping: bool,
+    flight: &Flight,
+) -> Result<Option<Waits>, Memory>
+    ensures { IfOk result (λ waits. IsWaiting (tried_by stopping index.now flight.now) waits) }
 {
     if !stopping {
-        return;
+        return Ok(None);
     }
     let waiting = waiting_at(index, &flight.path);
-    index.entries.wait(
-        &flight.path,
-        Waiting {
+    let path = flight.path.copy(alloc)?;
+    Ok(Some(Waits {
+        path,
+        waiting: Waiting {
             attempts: waiting.attempts,
             due: waiting.due,
             tried: true,
         },
-    );
+    }))
 }
 
 // The bytes of the job wait, where that became of them.
-fn wait_by(index: &mut Table, flight: &Flight, tried: bool, fated: Fated)
-    ensures { index.new ≡ waited index.old (wait_by_lem flight.now tried fated) }
+fn waits_by(
+    alloc: Global,
+    flight: &Flight,
+    tried: bool,
+    fated: Fated,
+) -> Result<Option<Waits>, Memory>
+    ensures { IfOk result (λ waits. IsWaiting (wait_by_lem flight.now tried fated) waits) }
 {
-    if let Fated::Waits { attempts, due } = fated {
-        index.entries.wait(
-            &flight.path,
-            Waiting {
-                attempts,
-                due,
-                tried,
-            },
-        );
+    let Fated::Waits { attempts, due } = fated else {
+        return Ok(None);
+    };
+    let path = flight.path.copy(alloc)?;
+    Ok(Some(Waits {
+        path,
+        waiting: Waiting {
+            attempts,
+            due,
+            tried,
+        },
+    }))
+}
+
+// Notes the record, if there is one.
+fn note(index: &mut Table, noting: Option<Noting>)
+    requires { (found : Option Record) × Notes index.old found noting }
+    ensures { (found : Option Record) → Notes index.old found noting → index.new ≡ recorded index.old found }
+{
+    if let Some(
+        Noting {
+            what,
+            row,
+            prepared,
+        },
+    ) = noting
+    {
+        index.replay_prepared(row, &what, prepared);
+    }
+}
+
+// The bytes of the path wait so, if that changes.
+fn wait(index: &mut Table, waits: Option<Waits>)
+    ensures { (found : Option Wait) → IsWaiting found waits → index.new ≡ waited index.old found }
+{
+    if let Some(Waits { path, waiting }) = waits {
+        index.entries.wait(&path, waiting);
     }
 }
 
@@ -269,6 +329,54 @@ fn settled_mark(fated: Fated) -> Mark
     }
 }
 
+// The step of a store.
+fn closed(who: Who, now: u64, path: Path, len: u64, body: BodyId, released: Vec<u32>) -> Made
+    ensures { result ≡ record {
+      step = record { who = who; now = now; deed = Deed.Store path len (Some body); mark = Mark.Body body; told = Some (Told.Closed body); moment = 0 };
+      answer = Ok (Told.Closed body);
+      released = released;
+    } }
+{
+    Made {
+        step: Step {
+            who,
+            now,
+            deed: Deed::Store {
+                path,
+                len,
+                body: Some(body),
+            },
+            mark: Mark::Body(body),
+            told: Some(Told::Closed(body)),
+            moment: 0,
+        },
+        answer: Ok(Told::Closed(body)),
+        released,
+    }
+}
+
+// The step of a settling.
+fn settled(who: Who, now: u64, deed: Deed, fated: Fated, released: Vec<u32>) -> Made
+    ensures { result ≡ record {
+      step = record { who = who; now = now; deed = deed; mark = mark_of_fate fated; told = Some (Told.Settled fated); moment = 0 };
+      answer = Ok (Told.Settled fated);
+      released = released;
+    } }
+{
+    Made {
+        step: Step {
+            who,
+            now,
+            deed,
+            mark: settled_mark(fated),
+            told: Some(Told::Settled(fated)),
+            moment: 0,
+        },
+        answer: Ok(Told::Settled(fated)),
+        released,
+    }
+}
+
 impl DeskTable {
     /// The table of a desk that starts with this index.
     pub fn start(alloc: Global, index: Table) -> DeskTable
@@ -292,10 +400,21 @@ impl DeskTable {
         &self.index
     }
 
-    /// Makes the step that the ask is, if it is one: a take that finds nothing is none. Tells what has to be
-    /// written: of a store first the bytes in their body's file, then `row` in the index, unless it is
-    /// empty, and then the released files are cut. A refused ask changes nothing but the trace. The table
-    /// changes at once, so it is of no use any more where a device then fails.
+    /// How many files are queued.
+    pub fn queued_count(&self) -> u32
+        ensures { result ≡ queued_in self.now.index.entries }
+    {
+        queued_count(self.index.entries.as_slice()) as u32
+    }
+
+    /// How many files are lost.
+    pub fn lost_count(&self) -> u32
+        ensures { result ≡ length self.now.index.lost }
+    {
+        self.index.lost.as_slice().len() as u32
+    }
+
+    /// Makes the step that the ask is, if it is one, and its change of the table with it.
     pub fn make(
         &mut self,
         who: Who,
@@ -308,33 +427,74 @@ impl DeskTable {
         ensures ok { IfOk result (λ made. IsMade self.old who now ask.now made row.new.items self.new) }
         ensures err { OnErr result (self.new ≡ self.old) }
     {
+        let Some(Planned { made, change }) = self.plan(who, ask, now, row)? else {
+            return Ok(None);
+        };
+        self.apply(change);
+        Ok(Some(made))
+    }
+
+    /// Plans the step that the ask is, if it is one: a take that finds nothing is none. Tells what has to be
+    /// written: of a store first the bytes in their body's file, then `row` in the index, unless it is
+    /// empty, and then the released files are cut. Nothing is changed yet; a refused ask changes nothing but
+    /// the trace.
+    pub fn plan(
+        &self,
+        who: Who,
+        ask: &Ask,
+        now: u64,
+        row: &mut Vec<u8>,
+    ) -> Result<Option<Planned>, Memory>
+        requires ask { IsAsk ask.now }
+        requires blank { row.old.items ≡ [] }
+        ensures plan { IfOk result (λ planned. IsPlan self.now who now ask.now planned row.new.items) }
+        ensures sound { IsSound self.now }
+    {
+        let _ = &self.index;
         match ask {
             Ask::Store { path, bytes } => {
-                let made = self.store(who, now, path, bytes, row)?;
-                Ok(Some(made))
+                let planned = self.plan_store(who, now, path, bytes, row)?;
+                Ok(Some(planned))
             }
             Ask::Forget { path, locks, below } => {
-                let made = self.forget(who, now, path, *locks, *below, row)?;
-                Ok(Some(made))
+                let planned = self.plan_forget(who, now, path, *locks, *below, row)?;
+                Ok(Some(planned))
             }
             Ask::Take => {
-                let made = self.take(who, now)?;
-                Ok(made)
+                let planned = self.plan_take(who, now)?;
+                Ok(planned)
             }
             Ask::Settle { job, done } => {
-                let made = self.settle(who, now, *job, done, row)?;
-                Ok(Some(made))
+                let planned = self.plan_settle(who, now, *job, done, row)?;
+                Ok(Some(planned))
             }
-            Ask::Stop => Ok(Some(self.stop(who, now))),
+            Ask::Stop => Ok(Some(self.plan_stop(who, now))),
         }
     }
 
-    /// The desk is about to end: no attempt waits any more.
-    pub fn stop(&mut self, who: Who, now: u64) -> Made
-        ensures { IsMade self.old who now asks.Stop (Some result) [] self.new }
+    /// Makes a change that was planned of this table. Takes no memory.
+    pub fn apply(&mut self, change: Change)
+        requires { CanChange self.old change }
+        ensures { (now : ℕ) (deed : Deed) → IsChange self.old (effect_of self.old now deed) change → self.new ≡ after self.old now deed }
     {
-        self.stopping = true;
-        Made {
+        let Change {
+            noting,
+            waits,
+            job,
+            stopping,
+        } = change;
+        note(&mut self.index, noting);
+        wait(&mut self.index, waits);
+        self.jobs = jobs_with(self.jobs, &job);
+        self.job = job_with(self.job.take(), job);
+        self.stopping = stopping;
+    }
+
+    // The desk is about to end: no attempt waits any more.
+    fn plan_stop(&self, who: Who, now: u64) -> Planned
+        ensures { IsPlan self.now who now asks.Stop (Some result) [] }
+    {
+        let made = Made {
             step: Step {
                 who,
                 now,
@@ -345,23 +505,37 @@ impl DeskTable {
             },
             answer: Ok(Told::Stopping),
             released: Vec::new(self.alloc),
+        };
+        Planned {
+            made,
+            change: Change::only_stopping(true),
         }
     }
 
-    /// Keeps these bytes as the newest of the path, and tells what has to be written: the bytes in the body's
-    /// file, then `row` in the index, unless it is empty. A store that is refused changes nothing.
-    pub fn store(
-        &mut self,
+    // A refused step.
+    fn refuse(&self, who: Who, now: u64, deed: Deed, fault: DeskFault) -> Result<Planned, Memory>
+        requires { IsDeed self.now deed }
+        ensures { IfOk result (λ planned. IsPlannedBy self.now who now deed (quiet self.now (Mark.Refused fault) None) planned []) }
+    {
+        let made = refused(self.alloc, who, now, deed, fault)?;
+        Ok(Planned {
+            made,
+            change: Change::only_stopping(self.stopping),
+        })
+    }
+
+    // The bytes are to be kept as the newest of the path.
+    fn plan_store(
+        &self,
         who: Who,
         now: u64,
         path: &Path,
         bytes: &Blob,
         row: &mut Vec<u8>,
-    ) -> Result<Made, Memory>
+    ) -> Result<Planned, Memory>
         requires path { IsPath path.now }
         requires blank { row.old.items ≡ [] }
-        ensures ok { IfOk result (λ made. IsMade self.old who now (asks.Store path.now bytes.now) (Some made) row.new.items self.new) }
-        ensures err { OnErr result (self.new ≡ self.old) }
+        ensures { IfOk result (λ planned. IsPlan self.now who now (asks.Store path.now bytes.now) (Some planned) row.new.items) }
     {
         let len = bytes.len() as u64;
         if let Some(fault) = store_fault(self.alloc, &self.index, path, len)? {
@@ -371,79 +545,66 @@ impl DeskTable {
                 len,
                 body: None,
             };
-            let made = refused(self.alloc, who, now, deed, fault)?;
-            return Ok(made);
+            let planned = self.refuse(who, now, deed, fault)?;
+            return Ok(planned);
         }
         let body = BodyId::of(self.index.next_file as u32, bytes.as_slice());
-        self.close(who, now, path, len, body, row)
+        self.plan_close(who, now, path, len, body, row)
     }
 
-    // Keeps the body of the path.
-    fn close(
-        &mut self,
+    // The body of the path is to be kept.
+    fn plan_close(
+        &self,
         who: Who,
         now: u64,
         path: &Path,
         len: u64,
         body: BodyId,
         row: &mut Vec<u8>,
-    ) -> Result<Made, Memory>
+    ) -> Result<Planned, Memory>
         requires path { IsPath path.now }
-        requires free { store_refusal self.old.index path.now len ≡ None }
-        requires file { body.file ≡ self.old.index.next_file }
+        requires free { store_refusal self.now.index path.now len ≡ None }
+        requires file { body.file ≡ self.now.index.next_file }
         requires len { body.len ≡ len }
         requires blank { row.old.items ≡ [] }
-        ensures ok { IfOk result (λ made. IsMadeBy self.old who now (Deed.Store path.now len (Some body)) (store_effect self.old path.now now (Some body)) made row.new.items self.new) }
-        ensures err { OnErr result (self.new ≡ self.old) }
+        ensures { IfOk result (λ planned. IsPlannedBy self.now who now (Deed.Store path.now len (Some body)) (store_effect self.now path.now now (Some body)) planned row.new.items) }
     {
         let asked = path.copy(self.alloc)?;
         let bare = bare_path(self.alloc, path)?;
+        let waits_for = bare.copy(self.alloc)?;
         let released = file_but(self.alloc, &self.job, body_at(&self.index, path))?;
-        let record = Record::Closed { path: bare, body };
-        let prepared = self.index.prepare(&record)?;
-        let next = next_row(&self.index)?;
-        record.write(row)?;
-        self.index.replay_prepared(next, &record, prepared);
-        self.index.entries.wait(
-            path,
-            Waiting {
-                attempts: 0,
-                due: later(now, FIRST_PAUSE),
-                tried: false,
+        let noting = noting(&self.index, Record::Closed { path: bare, body }, row)?;
+        Ok(Planned {
+            made: closed(who, now, asked, len, body, released),
+            change: Change {
+                noting: Some(noting),
+                waits: Some(Waits {
+                    path: waits_for,
+                    waiting: Waiting {
+                        attempts: 0,
+                        due: later(now, FIRST_PAUSE),
+                        tried: false,
+                    },
+                }),
+                job: NextJob::Same,
+                stopping: self.stopping,
             },
-        );
-        Ok(Made {
-            step: Step {
-                who,
-                now,
-                deed: Deed::Store {
-                    path: asked,
-                    len,
-                    body: Some(body),
-                },
-                mark: Mark::Body(body),
-                told: Some(Told::Closed(body)),
-                moment: 0,
-            },
-            answer: Ok(Told::Closed(body)),
-            released,
         })
     }
 
-    /// Forgets what is known of the path, and tells what has to be written.
-    pub fn forget(
-        &mut self,
+    // What is known of the path is to be forgotten.
+    fn plan_forget(
+        &self,
         who: Who,
         now: u64,
         path: &Path,
         locks: bool,
         below: bool,
         row: &mut Vec<u8>,
-    ) -> Result<Made, Memory>
+    ) -> Result<Planned, Memory>
         requires path { IsPath path.now }
         requires blank { row.old.items ≡ [] }
-        ensures ok { IfOk result (λ made. IsMade self.old who now (asks.Forget path.now locks below) (Some made) row.new.items self.new) }
-        ensures err { OnErr result (self.new ≡ self.old) }
+        ensures { IfOk result (λ planned. IsPlan self.now who now (asks.Forget path.now locks below) (Some planned) row.new.items) }
     {
         let asked = path.copy(self.alloc)?;
         let deed = Deed::Forget {
@@ -452,16 +613,16 @@ impl DeskTable {
             below,
         };
         if let Some(fault) = forget_fault(self.alloc, &self.index, path, below)? {
-            let made = refused(self.alloc, who, now, deed, fault)?;
-            return Ok(made);
+            let planned = self.refuse(who, now, deed, fault)?;
+            return Ok(planned);
         }
-        let made = self.leave(who, now, path, locks, below, deed, row)?;
-        Ok(made)
+        let planned = self.plan_leave(who, now, path, locks, below, deed, row)?;
+        Ok(planned)
     }
 
-    // Forgets what goes with the path.
-    fn leave(
-        &mut self,
+    // What goes with the path is to be forgotten.
+    fn plan_leave(
+        &self,
         who: Who,
         now: u64,
         path: &Path,
@@ -469,36 +630,36 @@ impl DeskTable {
         below: bool,
         deed: Deed,
         row: &mut Vec<u8>,
-    ) -> Result<Made, Memory>
+    ) -> Result<Planned, Memory>
         requires path { IsPath path.now }
-        requires free { queued_with path.now below self.old.index.entries ≡ None }
+        requires deed { IsDeed self.now deed }
+        requires free { queued_with path.now below self.now.index.entries ≡ None }
         requires blank { row.old.items ≡ [] }
-        ensures ok { IfOk result (λ made. IsMadeBy self.old who now deed (forget_effect self.old path.now locks below) made row.new.items self.new) }
-        ensures err { OnErr result (self.new ≡ self.old) }
+        ensures { IfOk result (λ planned. IsPlannedBy self.now who now deed (forget_effect self.now path.now locks below) planned row.new.items) }
     {
         let released = files_going(self.alloc, &self.index, &self.job, path, below)?;
         let found = forgot_record(self.alloc, &self.index, path, locks, below)?;
-        note(&mut self.index, found, row)?;
-        Ok(Made {
-            step: Step {
-                who,
-                now,
-                deed,
-                mark: Mark::Plain,
-                told: Some(Told::Forgot),
-                moment: 0,
+        let noting = noting_if(&self.index, found, row)?;
+        Ok(Planned {
+            made: Made {
+                step: Step {
+                    who,
+                    now,
+                    deed,
+                    mark: Mark::Plain,
+                    told: Some(Told::Forgot),
+                    moment: 0,
+                },
+                answer: Ok(Told::Forgot),
+                released,
             },
-            answer: Ok(Told::Forgot),
-            released,
+            change: Change {
+                noting,
+                waits: None,
+                job: NextJob::Same,
+                stopping: self.stopping,
+            },
         })
-    }
-
-    /// The body of the job that a take would give.
-    pub fn due(&self, now: u64) -> Result<Option<BodyId>, Memory>
-        ensures { IfOk result (λ body. body ≡ option_map (λ (flight : Flight). flight.body) (taken self.now now)) }
-    {
-        let flight = self.next_flight(now)?;
-        Ok(flight.map(|flight| flight.body))
     }
 
     // The job that a take would give.
@@ -523,57 +684,59 @@ impl DeskTable {
         }))
     }
 
-    /// Gives the next job, if there is one to take.
-    pub fn take(&mut self, who: Who, now: u64) -> Result<Option<Made>, Memory>
-        ensures ok { IfOk result (λ made. IsMade self.old who now asks.Take made [] self.new) }
-        ensures err { OnErr result (self.new ≡ self.old) }
+    // The next job, if there is one to take.
+    fn plan_take(&self, who: Who, now: u64) -> Result<Option<Planned>, Memory>
+        ensures { IfOk result (λ planned. IsPlan self.now who now asks.Take planned []) }
     {
         let Some(flight) = self.next_flight(now)? else {
             return Ok(None);
         };
-        let made = self.fly(who, now, flight)?;
-        Ok(Some(made))
+        let planned = self.plan_flight(who, now, flight)?;
+        Ok(Some(planned))
     }
 
-    // Gives this job.
-    fn fly(&mut self, who: Who, now: u64, flight: Flight) -> Result<Made, Memory>
-        requires { taken self.old now ≡ Some flight }
-        ensures ok { IfOk result (λ made. IsMadeBy self.old who now Deed.Take (take_effect self.old (Some flight)) made [] self.new) }
-        ensures err { OnErr result (self.new ≡ self.old) }
+    // This job is to be given.
+    fn plan_flight(&self, who: Who, now: u64, flight: Flight) -> Result<Planned, Memory>
+        requires { taken self.now now ≡ Some flight }
+        ensures { IfOk result (λ planned. IsPlannedBy self.now who now Deed.Take (take_effect self.now (Some flight)) planned []) }
     {
         let told = flight.copy(self.alloc)?;
         let answer = flight.copy(self.alloc)?;
-        let number = flight.number;
-        mark_tried(&mut self.index, self.stopping, &flight);
-        self.jobs = number;
-        self.job = Some(flight);
-        Ok(Made {
-            step: Step {
-                who,
-                now,
-                deed: Deed::Take,
-                mark: Mark::Job(number),
-                told: Some(Told::Took(told)),
-                moment: 0,
+        let waits = tried_if(self.alloc, &self.index, self.stopping, &flight)?;
+        Ok(Planned {
+            made: Made {
+                step: Step {
+                    who,
+                    now,
+                    deed: Deed::Take,
+                    mark: Mark::Job(flight.number),
+                    told: Some(Told::Took(told)),
+                    moment: 0,
+                },
+                answer: Ok(Told::Took(answer)),
+                released: Vec::new(self.alloc),
             },
-            answer: Ok(Told::Took(answer)),
-            released: Vec::new(self.alloc),
+            change: Change {
+                noting: None,
+                waits,
+                job: NextJob::Taken(flight),
+                stopping: self.stopping,
+            },
         })
     }
 
-    /// Notes how the job of this number ended, and tells what has to be written.
-    pub fn settle(
-        &mut self,
+    // It is to be noted how the job of this number ended.
+    fn plan_settle(
+        &self,
         who: Who,
         now: u64,
         job: u64,
         done: &Done,
         row: &mut Vec<u8>,
-    ) -> Result<Made, Memory>
+    ) -> Result<Planned, Memory>
         requires done { IsDone done.now }
         requires blank { row.old.items ≡ [] }
-        ensures ok { IfOk result (λ made. IsMade self.old who now (asks.Settle job done.now) (Some made) row.new.items self.new) }
-        ensures err { OnErr result (self.new ≡ self.old) }
+        ensures { IfOk result (λ planned. IsPlan self.now who now (asks.Settle job done.now) (Some planned) row.new.items) }
     {
         let deed = Deed::Settle {
             job,
@@ -581,52 +744,47 @@ impl DeskTable {
         };
         let fault = DeskFault::NoSuchJob { number: job };
         let Some(flight) = &self.job else {
-            let made = refused(self.alloc, who, now, deed, fault)?;
-            return Ok(made);
+            let planned = self.refuse(who, now, deed, fault)?;
+            return Ok(planned);
         };
         if flight.number != job {
-            let made = refused(self.alloc, who, now, deed, fault)?;
-            return Ok(made);
+            let planned = self.refuse(who, now, deed, fault)?;
+            return Ok(planned);
         }
-        let flight = flight.copy(self.alloc)?;
-        let made = self.land(who, now, &flight, done, deed, row)?;
-        Ok(made)
+        let planned = self.plan_land(who, now, flight, done, deed, row)?;
+        Ok(planned)
     }
 
-    // Ends the job in flight.
-    fn land(
-        &mut self,
+    // The job in flight is to be ended.
+    fn plan_land(
+        &self,
         who: Who,
         now: u64,
         flight: &Flight,
         done: &Done,
         deed: Deed,
         row: &mut Vec<u8>,
-    ) -> Result<Made, Memory>
-        requires flight { self.old.job ≡ Some flight.now }
+    ) -> Result<Planned, Memory>
+        requires flight { self.now.job ≡ Some flight.now }
         requires done { IsDone done.now }
+        requires deed { IsDeed self.now deed }
         requires blank { row.old.items ≡ [] }
-        ensures ok { IfOk result (λ made. IsMadeBy self.old who now deed (settle_by_fate self.old flight.now done.now (fated_of self.old.index flight.now now done.now)) made row.new.items self.new) }
-        ensures err { OnErr result (self.new ≡ self.old) }
+        ensures { IfOk result (λ planned. IsPlannedBy self.now who now deed (settle_by_fate self.now flight.now done.now (fated_of self.now.index flight.now now done.now)) planned row.new.items) }
     {
         let fated = fated(&self.index, flight, now, done);
         let tried = waiting_at(&self.index, &flight.path).tried;
         let released = settled_files(self.alloc, flight, fated)?;
+        let waits = waits_by(self.alloc, flight, tried, fated)?;
         let found = settled_record(self.alloc, flight, done, fated)?;
-        note(&mut self.index, found, row)?;
-        wait_by(&mut self.index, flight, tried, fated);
-        self.job = None;
-        Ok(Made {
-            step: Step {
-                who,
-                now,
-                deed,
-                mark: settled_mark(fated),
-                told: Some(Told::Settled(fated)),
-                moment: 0,
+        let noting = noting_if(&self.index, found, row)?;
+        Ok(Planned {
+            made: settled(who, now, deed, fated, released),
+            change: Change {
+                noting,
+                waits,
+                job: NextJob::Ended,
+                stopping: self.stopping,
             },
-            answer: Ok(Told::Settled(fated)),
-            released,
         })
     }
 }

@@ -1,4 +1,4 @@
-ghost use Rattle.std.specs.Prelude.{◌≡◌, ◌≢◌, ◌⊎◌, ℕ, false, List, Some, None};
+ghost use Rattle.std.specs.Prelude.{◌≡◌, ◌≢◌, ◌⊎◌, ℕ, ◌≤◌, false, List, Some, None};
 ghost use Rattle.std.specs.List.{Contains};
 ghost use Rattle.dav_store.specs.declared.body_id.BodyId.{BodyId};
 ghost use Rattle.dav_index.specs.Records.{IsRecord};
@@ -45,12 +45,13 @@ pub fn deeds_name_one_body()
 {}
 
 /// A law: after a deed that releases a file no body of the table is in it, and it isn't that of the job in
-/// flight.
+/// flight. Each such file is one of bodies.
 pub fn released_files_are_free()
     ensures body { (t : DeskTable) (now : ℕ) (deed : Deed) (file : ℕ) → IsSound t → IsDeed t deed → Contains (released_of t now deed) file
         → (body : BodyId) → Contains (bodies_of (after t now deed).index) body → body.file ≢ file }
     ensures job { (t : DeskTable) (now : ℕ) (deed : Deed) (file : ℕ) → IsSound t → IsDeed t deed → Contains (released_of t now deed) file
         → is_flying (after t now deed).job file ≡ false }
+    ensures begins { (t : DeskTable) (now : ℕ) (deed : Deed) (file : ℕ) → IsSound t → Contains (released_of t now deed) file → 2 ≤ file }
 {}
 
 /// A law: a start keeps a table within its bounds, and the bodies that it names.

@@ -12,6 +12,7 @@ mod fault;
 mod laws;
 mod made;
 mod pause;
+mod plan;
 mod queries;
 mod refusals;
 
@@ -25,6 +26,7 @@ pub use laws::{
     records_are_written, released_files_are_free, starts_keep_bodies,
 };
 pub use made::Made;
+pub use plan::{Change, Planned};
 
 #[cfg(test)]
 mod tests;
