@@ -286,3 +286,24 @@ starved_of old store.Disk is = cc is
 starved_of old (store.NotACache at) is = cc is
 starved_of old (store.Damaged number stored found) is = cc is
 starved_of old store.Memory is = (refl, refl)
+
+-- a cache without records is within its bounds
+pub fresh_within : IsWithin fresh_table
+fresh_within = record {
+  in_order = record { ordered = tt; differ = tt; paths = tt };
+  known = tt;
+  queued_have_bodies = tt;
+  lost_paths = tt;
+  few_known = omega arith;
+  few_kept = omega arith;
+  few_bytes = omega arith;
+  short_bodies = tt;
+  files_differ = λ file. omega arith;
+  files_begin = tt;
+  files_known = tt;
+  files_left = omega arith;
+  numbers_differ = λ number. omega arith;
+  numbers_known = tt;
+  numbers_begin = omega arith;
+  room_for_lost = omega arith;
+}

@@ -3,6 +3,7 @@ ghost use Rattle.dav_disk.specs.Disk.{Touches, OthersStay};
 ghost use Rattle.dav_store.specs.Rows.{IsReady};
 ghost use Rattle.dav_store.specs.Start.{head_of};
 ghost use Rattle.dav_store.specs.View.{journal_end};
+ghost use Rattle.dav_index.specs.Bounds.{IsWithin};
 ghost use Rattle.dav_index.specs.declared.table.Table.{Table};
 ghost use Rattle.dav_cache.specs.Stands.{EachImage};
 ghost use Rattle.dav_cache.specs.Recovers.{Recovers, AllRecover, IsConsistent};
@@ -25,6 +26,7 @@ pub(crate) fn open<D: Disk>(alloc: Global, disk: &mut D, url: &str) -> Result<Op
     ensures any_moment { D.honest → (table : Table) (bodies : ℕ → List ℕ) → AllRecover url.now table bodies (D.past disk.old (D.moment disk.old))
         → EachImage (D.past disk.new) (D.moment disk.old) (D.moment disk.new) (Recovers url.now table bodies) }
     ensures opened { D.honest → IfOk result (λ o. (length (D.seen disk.old 0) < 1099511627776) × IsIndexOf url.now o.table (D.seen disk.old 0)) }
+    ensures within { IfOk result (λ o. IsWithin o.table) }
     ensures fault { IfErr result (λ e. IsStartFault D.honest url.now (D.seen disk.old 0) (D.faults disk.old) (D.faults disk.new) e) }
     ensures ready { D.honest → IfOk result (λ o. IsReady (journal_end o.journal) (D.seen disk.new 0) (D.past disk.new (D.moment disk.new) 0)) }
     ensures touches { D.honest → Touches (λ f. f ≡ 0) (D.moment disk.old) (D.moment disk.new) (D.past disk.old) (D.past disk.new) }

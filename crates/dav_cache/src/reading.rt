@@ -46,6 +46,7 @@ pub(crate) fn read_table<D: Disk>(
         → IsReading (head_of url ∷ []) (journal_end journal) (D.seen disk.old 0) (D.past disk.old (D.moment disk.old) 0) → IsBadRow url at (D.seen disk.old 0)) }
     ensures touches { D.honest → Touches (λ _. ⊥) (D.moment disk.old) (D.moment disk.new) (D.past disk.old) (D.past disk.new) }
     ensures seen { D.honest → AllStay (D.seen disk.old) (D.seen disk.new) }
+    ensures within { IfOk result (λ o. IsWithin o.table) }
     ensures cause { IsCaused (D.faults disk.old) (D.faults disk.new) result }
     ensures undamaged { IfErr result IsNoDamage }
 {
@@ -78,6 +79,7 @@ fn next_record<D: Disk>(
     ensures refused { D.honest → IfErr result (λ e. (at : ℕ) → e ≡ NotACache at → (url : List ℕ) (records : List Record)
         → IsRead url records table.old (journal_end journal.old) (D.seen disk.old 0) (D.past disk.old (D.moment disk.old) 0) → IsBadRow url at (D.seen disk.old 0)) }
     ensures counted { IfOk result (λ n. n ≡ Row → table.new.records ≡ row) }
+    ensures within { IsWithin table.old → OnOk result (IsWithin table.new) }
     ensures touches { D.honest → Touches (λ _. ⊥) (D.moment disk.old) (D.moment disk.new) (D.past disk.old) (D.past disk.new) }
     ensures seen { D.honest → AllStay (D.seen disk.old) (D.seen disk.new) }
     ensures cause { IsCaused (D.faults disk.old) (D.faults disk.new) result }

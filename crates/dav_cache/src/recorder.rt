@@ -1,5 +1,7 @@
 ghost use Rattle.std.specs.Prelude.{◌≡◌, ◌≢◌, ◌⊎◌, ℕ, ◌<◌, ◌≤◌, List, [], ◌∷◌, ◌++◌, length, All, Contains, OnOk, OnErr, IfOk, IfErr, MatchResult, Some, None, option_map, vec_capacity};
+ghost use Rattle.sha2.specs.Sha256.{sha256};
 ghost use Rattle.dav_machine.specs.Log.{Rose};
+ghost use Rattle.dav_disk.specs.Disk.{AllStay};
 ghost use Rattle.dav_store.specs.Rows.{IsPayload, IsReady};
 ghost use Rattle.dav_store.specs.View.{journal_end};
 ghost use Rattle.dav_deeds.specs.DeskTable.{DeskTable, started};
@@ -8,7 +10,7 @@ ghost use Rattle.dav_cache.specs.Stands.{EachImage};
 ghost use Rattle.dav_cache.specs.Recovers.{Recovers, AllRecover};
 ghost use Rattle.dav_deeds.specs.Legal.{IsLegal, table_after};
 ghost use Rattle.dav_deeds.specs.declared.fault.DeskFault.TheVariants.{Disk as DiskFault, Memory as MemoryFault};
-ghost use Rattle.dav_index.specs.Bounds.{bodies_of};
+ghost use Rattle.dav_index.specs.Bounds.{bodies_of, IsWithin};
 
 use crate::commit::{Stop, commit, release};
 use crate::opening::{fault_of, open};
@@ -47,6 +49,7 @@ impl<D: Disk> Recorder<D> {
             → MatchResult result (λ both. EachImage (D.past both.0.disk) (D.moment disk) (D.moment both.0.disk) (Recovers url.now table given))
             (λ both. EachImage (D.past both.0) (D.moment disk) (D.moment both.0) (Recovers url.now table given)) }
         ensures opened { D.honest → IfOk result (λ both. (length (D.seen disk 0) < 1099511627776) × IsIndexOf url.now both.1 (D.seen disk 0)) }
+        ensures within { IfOk result (λ both. IsWithin both.1) }
         ensures fault { IfErr result (λ both. IsStartFault D.honest url.now (D.seen disk 0) (D.faults disk) (D.faults both.0) both.1) }
         ensures ready { D.honest → IfOk result (λ both. IsReady (journal_end both.0.journal) (D.seen both.0.disk 0) (D.past both.0.disk (D.moment both.0.disk) 0)) }
         ensures fresh { IfOk result (λ both. (both.0.trace.steps.items ≡ []) × (both.0.under ≡ None) × (both.0.dead ≡ None)) }
@@ -178,8 +181,10 @@ impl<D: Disk> Recorder<D> {
     pub fn fetch(&mut self, id: &BodyId) -> Result<Blob, DeskFault>
         ensures bytes { D.honest → IfOk result (λ blob. (url : List ℕ) (opening : DeskTable) (start : ℕ) (given : ℕ → List ℕ) → IsLive D.moment D.seen D.past url opening start given self.old
             → Contains (bodies_of (kept_table (table_after opening self.old.trace.steps.items))) id.now → blob ≡ given id.now.file) }
+        ensures sum { IfOk result (λ blob. sha256 blob ≡ id.now.sum) }
         ensures live { D.honest → (url : List ℕ) (opening : DeskTable) (start : ℕ) (given : ℕ → List ℕ) → IsLive D.moment D.seen D.past url opening start given self.old
             → IsLive D.moment D.seen D.past url opening start given self.new }
+        ensures seen { D.honest → AllStay (D.seen self.old.disk) (D.seen self.new.disk) }
         ensures fault { IfErr result (λ e. IsFetchFault D.honest id.now (D.seen self.old.disk id.now.file) (D.faults self.old.disk) (D.faults self.new.disk) e) }
         ensures starved { IfErr result (λ e. e ≡ MemoryFault → (self.new.disk ≡ self.old.disk) × (self.new.dead ≡ self.old.dead)) }
         ensures stopped { IfErr result (λ e. e ≢ MemoryFault → self.new.dead ≡ Some e) }

@@ -1,4 +1,5 @@
 use Rattle.std.proofs.Common.{◌≤◌, Some, arith, refl, sym, ◌∙◌, ap, subst}
+use Rattle.dav_disk.specs.Disk.{AllStay}
 use Rattle.dav_store.specs.Rows.{IsReady}
 use Rattle.dav_deeds.specs.declared.fault.DeskFault.{DeskFault}
 use Rattle.dav_cache.specs.Opening.{IsFetchFault}
@@ -51,3 +52,7 @@ returns-in-Err-clause-faults g c =
 
 pub returns-in-Err-clause-trace : goal.returns-in-Err-clause-trace
 returns-in-Err-clause-trace g c = (ap (λ (d : Recorder g.row.D.Denot). d.trace) c.fail.ensures.rest, ap (λ (d : Recorder g.row.D.Denot). d.under) c.fail.ensures.rest)
+
+pub returns-in-Err-clause-seen : goal.returns-in-Err-clause-seen
+returns-in-Err-clause-seen g c h =
+    subst (λ (d : Recorder g.row.D.Denot). AllStay (g.D.Disk.seen c.args.self.now.disk) (g.D.Disk.seen d.disk)) (sym c.fail.ensures.rest) (c.fetch.ensures.seen h)
