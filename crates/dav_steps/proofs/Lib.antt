@@ -1,0 +1,5 @@
+pub mod Telling
+pub mod Entering
+pub mod Asking
+pub mod Going
+pub mod Carrying

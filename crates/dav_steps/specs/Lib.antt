@@ -1,0 +1,5 @@
+pub mod Ends
+pub mod Verdict
+pub mod Ended
+pub mod Working
+pub mod Entry
