@@ -4,3 +4,16 @@ pub mod SentJobs
 pub mod Backing
 pub mod Turning
 pub mod Whole
+pub mod Asks
+pub mod TurnRuns
+pub mod TurnWork
+pub mod TurnTables
+pub mod ShellAsks
+pub mod Adding
+pub mod OneTurn
+pub mod DrainLaws
+pub mod Once
+pub mod Draining
+pub mod StillQueued
+pub mod AskSteps
+pub mod AskBacks

@@ -159,3 +159,25 @@ sends_noted base job old new ending sending Refused is = tt
 
 pub sends_so : (base : BaseParts) (job : Job) (old new : DeviceLog) (came : Option Came) (done : Done) → DoesOn old new (Uploads base job.path job.seen job.bytes) (Ok came) → done ≡ done_of came → Sends base job old new (Ok done)
 sends_so base job old new came done does is = record { came = Ok came; uploads = does; ends = ap done_so is }
+
+-- a run of an upload after which the job ends as sent has its request among the calls
+pub upload_puts : (base : BaseParts) (bodies : ℕ → List ℕ) (job : Job) (answers : List Answer) (run : UploadRun) (came : Option Came) (seen : Seen) → Uploads base job.path job.seen job.bytes answers run → run.result ≡ Ok came
+    → done_of came ≡ Sent seen → bodies job.body.file ≡ job.bytes → HasPut base bodies (flight_in job) run.made
+upload_puts base bodies job answers run came seen uploads heard sent bytes_are =
+    let found = went base job.path job.seen job.bytes answers run came seen uploads heard sent in
+    let taken = sent_is_taken found.0 seen (subst (λ (c : Option Came). done_of c ≡ Sent seen) found.1 sent) in
+    went_puts base bodies job found.0 run.made bytes_are found.2 taken.success
+
+pub upload_noted : (base : BaseParts) (job : Job) (answers : List Answer) (run : UploadRun) (came : Option Came) (seen : Seen) → Uploads base job.path job.seen job.bytes answers run → run.result ≡ Ok came → done_of came ≡ Sent seen → IsNoted seen
+upload_noted base job answers run came seen uploads heard sent =
+    let found = went base job.path job.seen job.bytes answers run came seen uploads heard sent in
+    let taken = sent_is_taken found.0 seen (subst (λ (c : Option Came). done_of c ≡ Sent seen) found.1 sent) in
+    noted job.seen found.2.told found.0 seen found.2.kept taken
+
+pub upload_done : (base : BaseParts) (job : Job) (answers : List Answer) (run : UploadRun) (came : Option Came) → Uploads base job.path job.seen job.bytes answers run → run.result ≡ Ok came → IsDone (done_of came)
+upload_done base job answers run came uploads heard = by (done_of came) refl
+  where
+    by : (done : Done) → done_of came ≡ done → IsDone done
+    by (Sent seen) is = upload_noted base job answers run came seen uploads heard is
+    by (Again after) is = tt
+    by Refused is = tt

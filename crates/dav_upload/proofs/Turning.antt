@@ -37,11 +37,11 @@ taken_flies t s flight deed legal told =
     (given_flies t (taken t s.now) flight (sym (ap (told_of t s.now) deed) ∙ sym legal ∙ told))
 
 -- a take tells nothing to be sent
-take_sends_none : (base : BaseParts) (bodies : ℕ → List ℕ) (job : Option Flight) (s : Step) (events : List Happened) → s.deed ≡ Take → HasPutOf base bodies (job_sent job s.deed s.mark) events
+pub take_sends_none : (base : BaseParts) (bodies : ℕ → List ℕ) (job : Option Flight) (s : Step) (events : List Happened) → s.deed ≡ Take → HasPutOf base bodies (job_sent job s.deed s.mark) events
 take_sends_none base bodies job s events deed = subst (λ (d : Deed). HasPutOf base bodies (job_sent job d s.mark) events) (sym deed) tt
 
 -- a settling has the request of its job among the calls, where it tells the job to be sent
-settling_sends : (base : BaseParts) (bodies : ℕ → List ℕ) (flight : Flight) (number : ℕ) (done : Done) (mark : Mark) (events : List Happened) → ((seen : Seen) → done ≡ Sent seen → HasPut base bodies flight events)
+pub settling_sends : (base : BaseParts) (bodies : ℕ → List ℕ) (flight : Flight) (number : ℕ) (done : Done) (mark : Mark) (events : List Happened) → ((seen : Seen) → done ≡ Sent seen → HasPut base bodies flight events)
     → HasPutOf base bodies (job_sent (Some flight) (Settle number done) mark) events
 settling_sends base bodies flight number (Sent seen) marks.Plain events put = put seen refl
 settling_sends base bodies flight number (Sent seen) (marks.Body body) events put = tt
@@ -52,12 +52,12 @@ settling_sends base bodies flight number (Again after) mark events put = tt
 settling_sends base bodies flight number Refused mark events put = tt
 
 -- the calls of one sending, with the request where the job was sent
-record PutsIf (base : BaseParts) (bodies : ℕ → List ℕ) (flight : Flight) (done : Done) (old new : DeviceLog) : Type 0 where
-  events : List Happened
-  grew : Grew old new events
-  put : (seen : Seen) → done ≡ Sent seen → HasPut base bodies flight events
+pub record PutsIf (base : BaseParts) (bodies : ℕ → List ℕ) (flight : Flight) (done : Done) (old new : DeviceLog) : Type 0 where
+  pub events : List Happened
+  pub grew : Grew old new events
+  pub put : (seen : Seen) → done ≡ Sent seen → HasPut base bodies flight events
 
-puts_if : (base : BaseParts) (bodies : ℕ → List ℕ) (job : Job) (done : Done) (old new : DeviceLog) → Sends base job old new (Ok done) → bodies job.body.file ≡ job.bytes → PutsIf base bodies (flight_in job) done old new
+pub puts_if : (base : BaseParts) (bodies : ℕ → List ℕ) (job : Job) (done : Done) (old new : DeviceLog) → Sends base job old new (Ok done) → bodies job.body.file ≡ job.bytes → PutsIf base bodies (flight_in job) done old new
 puts_if base bodies job (Sent seen) old new sending bytes =
     let puts = sends_put base job old new (Ok (Sent seen)) sending seen refl bodies bytes in
     record { events = puts.events; grew = puts.grew; put = λ other is. puts.put }
