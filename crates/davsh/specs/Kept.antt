@@ -1,102 +1,103 @@
 -- What a caller of a run may rely on.
-use Rattle.std.specs.Prelude.{◌≡◌, ◌⊎◌, ◌↔◌, ℕ, List, [], ◌∷◌, ◌++◌, map, length, codes, Contains, true, false}
+use Rattle.std.specs.Prelude.{◌≡◌, ◌⊎◌, ◌↔◌, ℕ, List, [], ◌∷◌, ◌++◌, map, length, codes, true, false, Bool, Option, Some, None, Ok, Err, filter}
 use Rattle.dav_machine.specs.Log.{any_failed}
+use Rattle.dav_machine.specs.Machine.{run_with}
+use Rattle.dav_machine.specs.Devices.{answers_before}
 use Rattle.dav_edge.specs.Device.{Happened, DeviceLog, Grew, given, taken, is_failure}
-use Rattle.dav_edge.specs.Connections.{Connection, connections_of}
+use Rattle.dav_edge.specs.Connections.{connections_of}
 use Rattle.dav_text.specs.Path.{PathParts}
-use Rattle.dav_frame.specs.Framing.{Message}
-use Rattle.dav_desk.specs.Entries.{Differ}
+use Rattle.dav_store.specs.Body.{id_of}
+use Rattle.dav_cache.specs.Survives.{with_under}
+use Rattle.dav_deeds.specs.DeskTable.{DeskTable}
+use Rattle.dav_deeds.specs.Fate.{IsKept}
+use Rattle.dav_deeds.specs.declared.ask.Ask.{Ask}
+use Rattle.dav_deeds.specs.declared.ask.Ask.TheVariants as asks
+use Rattle.dav_deeds.specs.declared.deed.Deed.{Deed}
+use Rattle.dav_deeds.specs.declared.deed.Deed.TheVariants as deeds
+use Rattle.dav_deeds.specs.declared.deed.Mark.{Mark}
+use Rattle.dav_deeds.specs.declared.deed.Mark.TheVariants as marks
+use Rattle.dav_deeds.specs.declared.deed.Step.{Step}
 use Rattle.dav_uri.specs.Target.{BaseParts}
-use Rattle.dav_desk.specs.Kept.{HoldsFile}
-use Rattle.davsh.specs.declared.ended.Ended.{Ended}
+use Rattle.dav_upload.specs.Asking.{Asked, table_through, steps_through}
+use Rattle.davsh.specs.Asked.{still, IsUnderIf, AllSummed}
+use Rattle.dav_upload.specs.Sent.{AsksBacked, OfJobs, PathsDiffer, jobs_told}
 use Rattle.davsh.specs.declared.ended.Status.{Status}
-use Rattle.davsh.specs.declared.ended.Status.TheVariants.{Done, Faults, Words, Input, Output, Memory}
+use Rattle.davsh.specs.declared.ended.Status.TheVariants.{Done, Faults, Words, Disk, Input, Output, Cache, Memory}
 use Rattle.davsh.specs.Words.{IsBase}
+use Rattle.davsh.specs.Devices.{Made}
 use Rattle.davsh.specs.Line.{lines_of, IsPut}
-use Rattle.davsh.specs.Shell.{State, fresh_state, counted, closed_line, Answered}
-use Rattle.dav_verbs.specs.Outcome.{is_success}
-use Rattle.dav_upload.specs.Exchange.{new_text, HasReply}
-use Rattle.davsh.specs.Run.{Made, BothGrew, Ending, words_end, input_end, memory_end, left_text, EndHeard}
+use Rattle.davsh.specs.Shell.{State, fresh_state, counted, closed_line, Lined, Lines}
+use Rattle.davsh.specs.Carrying.{HeardEnd, HeardFailure}
+use Rattle.davsh.specs.Run.{Ending, Opened, words_end, input_end, memory_end, disk_end, cache_end, left_of}
 
--- a line that was carried out, at which current path, and what was printed of it
+-- a line that was carried out, at which current path, what the desk was asked for it, and what was printed of it
 pub record Told : Type 0 where
   pub current : PathParts
   pub line : List ℕ
+  pub asked : List Asked
   pub printed : List ℕ
 
 abbrev pub line_of : Told → List ℕ
 line_of told = told.line
 
--- the lines were carried out one after another; the sink may have failed in the last
+-- what was asked of the desk for these lines
+abbrev pub asked_by : List Told → List Asked
+asked_by [] = []
+asked_by (told ∷ more) = told.asked ++ asked_by more
+
+-- the line, in this state, makes these asks and comes to this
+pub record LineDoes (before : State) (told : Told) (lined : Lined) : Type 0 where
+  pub at : told.current ≡ before.current
+  pub does : Lines before told.line (answers_before told.asked []) (run_with lined told.asked [])
+  pub printed : told.printed ≡ lined.printed
+
+-- the lines were carried out one after another; the sink may have failed in the last, or the desk
 abbrev pub Walks : State → List Told → State → Type 0
 Walks before [] end = end ≡ before
 Walks before (told ∷ more) end =
-    (now : State) × Answered before told.line told.printed now × (((more ≡ []) × (end ≡ now)) ⊎ Walks (counted now) more end)
-    × (told.current ≡ before.current)
+    (lined : Lined) × LineDoes before told lined × (((more ≡ []) × (end ≡ lined.now)) ⊎ ((lined.fault ≡ None) × Walks (counted lined.now) more end))
 
 -- the line stored these bytes under this path, and `closed` was the answer
 pub record IsClose (told : Told) (path : PathParts) (bytes : List ℕ) : Type 0 where
-  pub typed : PathParts
-  pub put : IsPut told.current told.line typed bytes
-  pub same : typed.segments ≡ path.segments
-  pub printed : told.printed ≡ closed_line typed (length bytes)
+  pub put : IsPut told.current told.line path bytes
+  pub printed : told.printed ≡ closed_line path (length bytes)
 
--- none of the lines closed this path
-abbrev pub NoClose : List Told → PathParts → Type 0
-NoClose [] path = Unit {0}
-NoClose (told ∷ more) path = ((bytes : List ℕ) → ¬ (IsClose told path bytes)) × NoClose more path
+-- a step that closed a path with a body
+abbrev pub is_closing : Deed → Mark → Bool
+is_closing (deeds.Store path len body) (marks.Body id) = true
+is_closing deed mark = false
 
--- the last of the lines that closed the path did so with these bytes
-abbrev pub IsLastClose : List Told → PathParts → List ℕ → Type 0
-IsLastClose [] path bytes = ⊥
-IsLastClose (told ∷ more) path bytes = IsLastClose more path bytes ⊎ (IsClose told path bytes × NoClose more path)
+-- the steps that closed a path
+abbrev pub closings : List Step → List Step
+closings steps = filter (λ s. is_closing s.deed s.mark) steps
 
--- Among these calls of a wire a connection to the base was sent the whole request that stores the bytes as a
--- new file, and what was received on it begins with a whole reply whose status is 200 to 299, or is one whose body
--- ends where the connection does.
-pub record WasPut (base : BaseParts) (path : PathParts) (bytes : List ℕ) (events : List Happened) : Type 0 where
-  pub connection : Connection
-  pub among : Contains (connections_of events) connection
-  pub to_host : connection.host ≡ base.host
-  pub to_port : connection.port ≡ base.port
-  pub named : PathParts
-  pub same : named.segments ≡ path.segments
-  pub sent : connection.sent ≡ new_text base named bytes
-  pub reply : Message
-  pub received : HasReply connection.received reply
-  pub success : is_success reply.head.status ≡ true
-
--- a beginning of the text was sent on the connection, to the base's host and port
-pub record IsBegun (base : BaseParts) (text : List ℕ) (connection : Connection) : Type 0 where
-  pub to_host : connection.host ≡ base.host
-  pub to_port : connection.port ≡ base.port
-  pub cut : List ℕ
-  pub sent : connection.sent ++ cut ≡ text
-
--- a beginning of the request that stores the last closed bytes of the path was sent on the connection
-pub record IsOfClose (base : BaseParts) (told : List Told) (path : PathParts) (connection : Connection) : Type 0 where
+-- the step closed the path that the line names, with the bytes that the line has
+pub record IsStoreOf (told : Told) (s : Step) : Type 0 where
+  pub path : PathParts
   pub bytes : List ℕ
-  pub close : IsLastClose told path bytes
-  pub begun : IsBegun base (new_text base path bytes) connection
+  pub put : IsPut told.current told.line path bytes
+  pub file : ℕ
+  pub deed : s.deed ≡ deeds.Store path (length bytes) (Some (id_of file bytes))
+  pub mark : s.mark ≡ marks.Body (id_of file bytes)
 
--- each of the ones goes with that of the others at its place
-abbrev pub Pairwise : {X Y : Type 0} → (X → Y → Type 0) → List X → List Y → Type 0
-Pairwise P [] [] = Unit {0}
-Pairwise P [] (y ∷ ys) = ⊥
-Pairwise P (x ∷ xs) [] = ⊥
-Pairwise P (x ∷ xs) (y ∷ ys) = P x y × Pairwise P xs ys
+-- Each of these steps is of a line of its own, in the order of the lines; and each line that was answered `closed` has one.
+abbrev pub StoresAre : List Told → List Step → Type 0
+StoresAre [] steps = steps ≡ []
+StoresAre (told ∷ more) steps =
+    (((path : PathParts) (bytes : List ℕ) → IsClose told path bytes → ⊥) × StoresAre more steps)
+    ⊎ ((s : Step) × (rest : List Step) × (steps ≡ s ∷ rest) × IsStoreOf told s × StoresAre more rest)
 
--- Each connection is of a path of its own: on it a beginning of the request that stores the path's last closed bytes
--- was sent, and nothing else. No path is sent twice.
-pub record SentOnce (base : BaseParts) (told : List Told) (connections : List Connection) : Type 0 where
-  pub paths : List PathParts
-  pub differ : Differ (λ p. p.segments) paths
-  pub each : Pairwise (IsOfClose base told) paths connections
+-- none of the asks stores anything
+abbrev pub IsStore : Ask → Type 0
+IsStore (asks.Store path bytes) = Unit {0}
+IsStore (asks.Forget path locks below) = ⊥
+IsStore asks.Take = ⊥
+IsStore (asks.Settle job done) = ⊥
+IsStore asks.Stop = ⊥
 
--- the bytes are queued, or lost, or were sent
-abbrev pub IsKept : BaseParts → PathParts → List ℕ → Ended → List Happened → Type 0
-IsKept base path bytes end events =
-    HoldsFile end.queued path bytes ⊎ (HoldsFile end.lost path bytes ⊎ WasPut base path bytes events)
+abbrev pub NoStores : List Asked → Type 0
+NoStores [] = Unit {0}
+NoStores (e ∷ es) = (IsStore e.asked.ask → ⊥) × NoStores es
 
 -- what the line printed tells a fault
 abbrev pub IsFault : Told → Type 0
@@ -111,19 +112,28 @@ AnyFault (told ∷ more) = IsFault told ⊎ AnyFault more
 abbrev pub FaultsTold : Status → List Told → Type 0
 FaultsTold Done told = ¬ (AnyFault told)
 FaultsTold Faults told = AnyFault told
-FaultsTold _ told = Unit {0}
+FaultsTold Words told = Unit {0}
+FaultsTold Disk told = Unit {0}
+FaultsTold Input told = Unit {0}
+FaultsTold Output told = Unit {0}
+FaultsTold (Cache fault) told = Unit {0}
+FaultsTold Memory told = Unit {0}
 
 -- what the lines printed, one after another
 abbrev pub printed_by : List Told → List ℕ
 printed_by [] = []
 printed_by (told ∷ more) = told.printed ++ printed_by more
 
--- what is to be written behind the lines
-abbrev pub last_text : Ending → List ℕ
-last_text (Words, end) = words_end
-last_text (Input, end) = input_end
-last_text (Memory, end) = memory_end
-last_text (_, end) = left_text (length end.queued) (length end.lost)
+-- what is to be written behind the lines, where this is the table at the end
+abbrev pub last_text : Status → DeskTable → List ℕ
+last_text Words t = words_end
+last_text Disk t = disk_end
+last_text Input t = input_end
+last_text (Cache fault) t = cache_end fault
+last_text Memory t = memory_end
+last_text Done t = left_of t
+last_text Faults t = left_of t
+last_text Output t = left_of t
 
 -- the sink took a beginning of the text in these calls, and the whole where none of them failed
 pub record Wrote (events : List Happened) (text : List ℕ) : Type 0 where
@@ -145,46 +155,91 @@ abbrev pub IsWritten : Status → List Happened → List ℕ → Type 0
 IsWritten Done events answers = any_failed is_failure events ≡ false
 IsWritten Faults events answers = any_failed is_failure events ≡ false
 IsWritten Words events answers = WroteAnswers events answers
+IsWritten Disk events answers = WroteAnswers events answers
 IsWritten Input events answers = WroteAnswers events answers
+IsWritten (Cache fault) events answers = WroteAnswers events answers
 IsWritten Memory events answers = WroteAnswers events answers
 IsWritten Output events answers = any_failed is_failure events ≡ true
+
+-- How the source went, by the status: it failed in the last call where that is the status, and only there. It said
+-- that its end was there where the input was read to its end. Where the words were refused it wasn't called.
+abbrev pub EndHeard : Status → List Happened → Type 0
+EndHeard Done heard = HeardEnd heard
+EndHeard Faults heard = HeardEnd heard
+EndHeard Memory heard = any_failed is_failure heard ≡ false
+EndHeard Words heard = heard ≡ []
+EndHeard Disk heard = any_failed is_failure heard ≡ false
+EndHeard Input heard = HeardFailure heard
+EndHeard Output heard = any_failed is_failure heard ≡ false
+EndHeard (Cache fault) heard = any_failed is_failure heard ≡ false
 
 -- at these statuses no connection was made
 abbrev pub NothingSent : Status → List Happened → Type 0
 NothingSent Words events = events ≡ []
 NothingSent Input events = events ≡ []
-NothingSent _ events = Unit {0}
+NothingSent Done events = Unit {0}
+NothingSent Faults events = Unit {0}
+NothingSent Disk events = Unit {0}
+NothingSent Output events = Unit {0}
+NothingSent (Cache fault) events = Unit {0}
+NothingSent Memory events = Unit {0}
 
 -- at these statuses every line of the input was carried out
 abbrev pub AllRead : Status → List (List ℕ) → Type 0
 AllRead Done rest = rest ≡ []
 AllRead Faults rest = rest ≡ []
-AllRead Memory rest = rest ≡ []
-AllRead _ rest = Unit {0}
+AllRead Memory rest = Unit {0}
+AllRead Words rest = Unit {0}
+AllRead Disk rest = Unit {0}
+AllRead Input rest = Unit {0}
+AllRead Output rest = Unit {0}
+AllRead (Cache fault) rest = Unit {0}
+
+-- the trace has the steps that these asks add, where the desk started so; the one under way is of an ask that was stopped
+abbrev pub HasSteps : Opened → List Asked → List Step → Option Step → Type 0
+HasSteps (Ok t) asked steps under = (map still steps ≡ steps_through t asked) × IsUnderIf t asked under
+HasSteps (Err fault) asked steps under = (asked ≡ []) × (steps ≡ []) × (under ≡ None)
+
+-- what the run made of the desk, if one started with this table: the steps are those of the asks; of the bytes that were closed last of
+-- each path, those of earlier runs among them, each is queued at the end, or was sent by one of the steps, or is lost
+pub record IsDesked (opening : DeskTable) (asked : List Asked) (steps : List Step) (under : Option Step) (final : DeskTable) : Type 0 where
+  pub traced : HasSteps (Ok opening) asked steps under
+  pub final_is : final ≡ table_through opening asked
+  pub kept : IsKept opening steps final.index
+  pub sums : AllSummed opening asked
 
 -- The source gave these bytes, and their first lines were carried out, with these answers. The sink took what they
--- printed, in their order, and a last line. For each path the bytes of the last line that closed it are kept.
-pub record Keeps (words : List (List ℕ)) (source_old source_new out_old out_new up_old up_new : DeviceLog) (end : Ending) : Type 0 where
+-- printed, in their order, and a last line. For each path the bytes that were closed last are kept.
+pub record Keeps (words : List (List ℕ)) (source_old source_new out_old out_new up_old up_new : DeviceLog) (steps : List Step) (under : Option Step) (end : Ending) : Type 0 where
   pub heard : List Happened
   pub made : Made
   pub told : List Told
   pub last : State
   pub rest : List (List ℕ)
   pub gave : Grew source_old source_new heard
-  pub grew : BothGrew out_old out_new up_old up_new made
-  pub ended : EndHeard end.0 heard
-  pub source : (end.0 ≡ Input) ↔ (any_failed is_failure heard ≡ true)
+  pub out : Grew out_old out_new made.out
+  pub up : Grew up_old up_new made.up
+  pub ended : EndHeard end.status heard
+  pub source : (end.status ≡ Input) ↔ (any_failed is_failure heard ≡ true)
   pub lines : lines_of (given heard) ≡ map line_of told ++ rest
-  pub all : AllRead end.0 rest
+  pub read : AllRead end.status rest
   pub current : PathParts
   pub stands : (base : BaseParts) → IsBase words base → current ≡ base.path
-  pub answered : Walks (fresh_state current) told last
-  pub wrote : Wrote made.out (printed_by told ++ last_text end)
-  pub written : IsWritten end.0 made.out (printed_by told)
-  pub faults : FaultsTold end.0 told
-  pub done : last.done ≡ end.1.done
-  pub starved : last.starved ≡ true → end.1.starved ≡ true
-  pub kept : (base : BaseParts) → IsBase words base → (path : PathParts) (bytes : List ℕ)
-      → IsLastClose told path bytes → IsKept base path bytes end.1 made.up
-  pub undrained : NothingSent end.0 made.up
-  pub sent : (base : BaseParts) → IsBase words base → SentOnce base told (connections_of made.up)
+  pub opening : DeskTable
+  pub answered : Walks (fresh_state current opening) told last
+  pub behind : List Asked
+  pub asks : made.desk ≡ asked_by told ++ behind
+  pub no_more : NoStores behind
+  pub final : DeskTable
+  pub desked : IsDesked opening made.desk steps under final
+  pub stores : StoresAre told (closings (with_under steps under))
+  pub lost : end.lost ≡ length final.index.lost
+  pub wrote : Wrote made.out (printed_by told ++ last_text end.status final)
+  pub written : IsWritten end.status made.out (printed_by told)
+  pub faults : FaultsTold end.status told
+  pub done : last.done ≡ end.done
+  pub starved : last.starved ≡ true → end.starved ≡ true
+  pub undrained : NothingSent end.status made.up
+  pub backed : (base : BaseParts) → IsBase words base → AsksBacked base [] opening made.desk made.up
+  pub sent : (base : BaseParts) → IsBase words base → OfJobs base (jobs_told opening made.desk) (connections_of made.up)
+  pub differ : PathsDiffer (jobs_told opening made.desk)

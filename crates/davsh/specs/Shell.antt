@@ -1,35 +1,44 @@
--- What the shell does, from the bytes of the input and the answers of the sink.
-use Rattle.std.specs.Prelude.{◌≡◌, ◌≢◌, ◌+◌, ◌==◌, ℕ, List, [], ◌∷◌, ◌++◌, length, codes, decimal, min, Bool, true, false, MatchBool, if◌then◌else◌, Ok, Err}
+-- What the shell does, from the bytes of the input, the answers of the sink and how its asks of the desk go.
+use Rattle.std.specs.Prelude.{◌≡◌, ◌≢◌, ◌+◌, ◌==◌, ℕ, List, [], ◌∷◌, ◌++◌, length, codes, decimal, min, Bool, true, false, MatchBool, if◌then◌else◌, Option, Some, None, Result, Ok, Err}
 use Rattle.dav_machine.specs.Devices.{one_device}
-use Rattle.dav_machine.specs.Machine.{Run, give, and_then}
-use Rattle.dav_edge.specs.Device.{Answer, Happened, ByteMachine}
+use Rattle.dav_machine.specs.Machine.{Machine, Run, give, and_then}
+use Rattle.dav_machine.specs.Part.{lift}
 use Rattle.dav_edge.specs.Whole.{Sends}
 use Rattle.dav_text.specs.Path.{PathParts, escaped}
 use Rattle.dav_text.specs.declared.which.Which.{Which}
 use Rattle.dav_text.specs.declared.which.Which.TheVariants as limits
-use Rattle.dav_desk.specs.Table.{Table, fresh_table}
-use Rattle.dav_desk.specs.After.{after}
-use Rattle.dav_desk.specs.declared.answer.Answer.{Answer as DeskAnswer}
-use Rattle.dav_desk.specs.declared.ask.Ask.TheVariants.{Store}
-use Rattle.dav_desk.specs.declared.fault.DeskFault.TheVariants.{Limit}
+use Rattle.dav_deeds.specs.DeskTable.{DeskTable}
+use Rattle.dav_deeds.specs.declared.ask.Ask.TheVariants.{Store, Forget}
+use Rattle.dav_deeds.specs.declared.ask.Who.TheVariants as parties
+use Rattle.dav_deeds.specs.declared.fault.DeskFault.{DeskFault}
+use Rattle.dav_deeds.specs.declared.fault.DeskFault.TheVariants as faults
+use Rattle.dav_upload.specs.Asking.{Asking, asking, Met, Asked, Answered, Asks}
+use Rattle.davsh.specs.declared.cause.Cause.{Cause}
+use Rattle.davsh.specs.declared.cause.Cause.TheVariants.{Crowded, Limit, Memory, Disk, Cache}
+use Rattle.davsh.specs.Causes.{cause_of}
+use Rattle.davsh.specs.declared.stop.Halt.{Halt}
+use Rattle.davsh.specs.declared.stop.Halt.TheVariants as halts
 use Rattle.davsh.specs.declared.stop.Stop.{Stop}
-use Rattle.davsh.specs.declared.stop.Stop.TheVariants.{End, Input, Output}
+use Rattle.davsh.specs.declared.stop.Stop.TheVariants.{End, Input}
+use Rattle.davsh.specs.Stops.{stop_of}
+use Rattle.davsh.specs.Devices.{all, the_sink, the_desk, RunMachine}
 use Rattle.davsh.specs.Line.{without_return, IsPut, IsNoPut}
 
 -- the current path, the desk's table, whether a line answered a fault, whether there was want of memory, and how many lines
 -- were carried out before the first such want
 pub record State : Type 0 where
   pub current : PathParts
-  pub table : Table
+  pub table : DeskTable
   pub faulty : Bool
   pub starved : Bool
   pub done : ℕ
 
-abbrev pub state : PathParts → Table → Bool → Bool → ℕ → State
+abbrev pub state : PathParts → DeskTable → Bool → Bool → ℕ → State
 state current table faulty starved done = record { current = current; table = table; faulty = faulty; starved = starved; done = done }
 
-abbrev pub fresh_state : PathParts → State
-fresh_state current = state current fresh_table false false 0
+-- a shell that has read no line, over a desk with this table
+abbrev pub fresh_state : PathParts → DeskTable → State
+fresh_state current table = state current table false false 0
 
 -- one line more, unless there was want of memory; a u64 counts no further than it goes
 abbrev pub counted : State → State
@@ -41,6 +50,9 @@ faulted st = state st.current st.table true st.starved st.done
 abbrev pub starved : State → State
 starved st = state st.current st.table true true st.done
 
+abbrev pub with_table : State → DeskTable → State
+with_table st table = state st.current table st.faulty st.starved st.done
+
 -- the line that a store prints
 abbrev pub closed_line : PathParts → ℕ → List ℕ
 closed_line path len = codes "closed " ++ escaped path ++ codes " " ++ decimal len ++ codes "\n"
@@ -50,6 +62,10 @@ syntax_line = codes "fault: syntax early 0\n"
 
 abbrev pub memory_line : List ℕ
 memory_line = codes "fault: memory\n"
+
+-- no more paths can be known, and this one would have had to be forgotten
+abbrev pub crowded_line : PathParts → List ℕ
+crowded_line oldest = codes "fault: crowded " ++ escaped oldest ++ codes "\n"
 
 abbrev pub which_name : Which → List ℕ
 which_name limits.Body = codes "body"
@@ -69,43 +85,125 @@ which_name limits.Tag = codes "tag"
 abbrev pub limit_line : Which → List ℕ
 limit_line which = codes "fault: limit " ++ which_name which ++ codes "\n"
 
--- A line is carried out: what it prints, and the state after it. Want of memory may meet any line.
-pub data Answered (before : State) (line printed : List ℕ) (now : State) : Type 0 where
-  nothing : line ≡ [] → printed ≡ [] → now ≡ before → Answered before line printed now
-  syntax : line ≢ [] → IsNoPut before.current line → printed ≡ syntax_line → now ≡ faulted before → Answered before line printed now
-  closed : (path : PathParts) (bytes : List ℕ) (table : Table) (answer : DeskAnswer) → IsPut before.current line path bytes
-      → after before.table (Store path bytes) ≡ (table, Ok answer)
-      → printed ≡ closed_line path (length bytes) → now ≡ state before.current table before.faulty before.starved before.done
-      → Answered before line printed now
-  limit : (path : PathParts) (bytes : List ℕ) (which : Which) → IsPut before.current line path bytes
-      → after before.table (Store path bytes) ≡ (before.table, Err (Limit which))
-      → printed ≡ limit_line which → now ≡ faulted before → Answered before line printed now
-  memory : printed ≡ memory_line → now ≡ starved before → Answered before line printed now
-
--- the line is carried out and its answer is written: whether the sink took it all, and the state then
-pub record Carries (line : List ℕ) (before : State) (answers : List Answer) (run : Run (List Happened) (List Answer) (Bool × State)) : Type 0 where
+-- what a line comes to: what it prints, the state then, and the fault of the desk that stops the run, if one does
+pub record Lined : Type 0 where
   pub printed : List ℕ
   pub now : State
-  pub answered : Answered before line printed now
-  pub writes : and_then one_device (Sends printed) (λ all. give one_device (all, (if all then counted now else now))) answers run
+  pub fault : Option DeskFault
 
--- behind a line that was carried out the shell goes on, or stops since the sink failed
-abbrev pub goes_on : ByteMachine (Stop × State) → State → Bool → ByteMachine (Stop × State)
-goes_on next st true = next
-goes_on next st false = give one_device (Output, st)
+abbrev pub DeskMachine : Type 0 → Type 1
+DeskMachine R = Machine (List Asked) (List Met) R
+
+abbrev pub lined : List ℕ → State → Option DeskFault → Lined
+lined printed now fault = record { printed = printed; now = now; fault = fault }
+
+-- the line prints this, and the desk is not asked
+abbrev pub prints : List ℕ → State → DeskMachine Lined
+prints printed now = give one_device (lined printed now None)
+
+abbrev pub store_ask : PathParts → List ℕ → Asking
+store_ask path bytes = asking parties.Shell 0 (Store path bytes)
+
+-- this one path is to be forgotten, without its locks and what is below it
+abbrev pub forget_ask : PathParts → Asking
+forget_ask path = asking parties.Shell 0 (Forget path false false)
+
+-- what is done where no more paths can be known
+abbrev pub OnCrowded : Type 1
+OnCrowded = PathParts → State → DeskMachine Lined
+
+-- a fault of the desk that isn't the shell's to answer stops it
+abbrev pub stops : DeskFault → State → DeskMachine Lined
+stops fault st = give one_device (lined [] st (Some fault))
+
+-- why a store wasn't made
+abbrev pub refused : OnCrowded → Cause → State → DeskMachine Lined
+refused crowded (Crowded oldest) st = crowded oldest st
+refused crowded (Limit which) st = give one_device (lined (limit_line which) (faulted st) None)
+refused crowded Memory st = give one_device (lined memory_line (starved st) None)
+refused crowded Disk st = stops faults.Disk st
+refused crowded (Cache fault) st = stops fault st
+
+-- what a store comes to, by the desk's answer
+abbrev pub stored : PathParts → List ℕ → OnCrowded → Answered → State → DeskMachine Lined
+stored path bytes crowded (Ok answer) st = give one_device (lined (closed_line path (length bytes)) st None)
+stored path bytes crowded (Err fault) st = refused crowded (cause_of fault) st
+
+-- the bytes are stored under the path
+abbrev pub StoresOr : PathParts → List ℕ → OnCrowded → State → DeskMachine Lined
+StoresOr path bytes crowded st = and_then one_device (Asks st.table (store_ask path bytes)) (λ r. stored path bytes crowded r.0 (with_table st r.1))
+
+-- no more paths can be known, though one was forgotten; or there was no memory to tell it
+pub data IsStillCrowded (oldest : PathParts) (st : State) (is : Lined) : Type 0 where
+  tells : is ≡ lined (crowded_line oldest) (faulted st) None → IsStillCrowded oldest st is
+  memory : is ≡ lined memory_line (starved st) None → IsStillCrowded oldest st is
+
+pub record StillCrowded (oldest : PathParts) (st : State) (answers : List Met) (run : Run (List Asked) (List Met) Lined) : Type 0 where
+  pub is : IsStillCrowded oldest st run.result
+  pub gives : give one_device run.result answers run
+
+-- why a path wasn't forgotten
+abbrev pub unforgotten : Cause → State → DeskMachine Lined
+unforgotten (Crowded other) st = stops (faults.Crowded other) st
+unforgotten (Limit which) st = stops (faults.Limit which) st
+unforgotten Memory st = give one_device (lined memory_line (starved st) None)
+unforgotten Disk st = stops faults.Disk st
+unforgotten (Cache fault) st = stops fault st
+
+-- once the oldest path was forgotten, the bytes are stored
+abbrev pub forgotten : PathParts → List ℕ → Answered → State → DeskMachine Lined
+forgotten path bytes (Ok answer) st = StoresOr path bytes StillCrowded st
+forgotten path bytes (Err fault) st = unforgotten (cause_of fault) st
+
+abbrev pub makes_room : PathParts → List ℕ → PathParts → State → DeskMachine Lined
+makes_room path bytes oldest st = and_then one_device (Asks st.table (forget_ask oldest)) (λ r. forgotten path bytes r.0 (with_table st r.1))
+
+-- the bytes are stored under the path; where no more paths can be known, the one written longest ago is forgotten first
+abbrev pub Stores : PathParts → List ℕ → State → DeskMachine Lined
+Stores path bytes st = StoresOr path bytes (makes_room path bytes) st
+
+-- A line is carried out on the desk. Want of memory may meet any line.
+pub data Lines (before : State) (line : List ℕ) (answers : List Met) (run : Run (List Asked) (List Met) Lined) : Type 0 where
+  nothing : line ≡ [] → prints [] before answers run → Lines before line answers run
+  syntax : line ≢ [] → IsNoPut before.current line → prints syntax_line (faulted before) answers run → Lines before line answers run
+  puts : (path : PathParts) (bytes : List ℕ) → IsPut before.current line path bytes → Stores path bytes before answers run → Lines before line answers run
+  memory : prints memory_line (starved before) answers run → Lines before line answers run
+
+-- the shell goes on, or why it stops; and the state then
+abbrev pub Carried : Type 0
+Carried = Result (Unit {0}) Halt × State
+
+-- the state behind a line whose answer the sink took or didn't
+abbrev pub written : State → Bool → Carried
+written now true = (Ok tt, counted now)
+written now false = (Err halts.Output, now)
+
+-- what a line prints is written, unless the desk stopped in it
+abbrev pub writes : List ℕ → State → Option DeskFault → RunMachine Carried
+writes printed now None = and_then all (lift the_sink (Sends printed)) (λ went. give all (written now went))
+writes printed now (Some fault) = give all (Err (halts.Desk fault), now)
+
+-- the line is carried out and its answer is written
+abbrev pub Carries : List ℕ → State → RunMachine Carried
+Carries line before = and_then all (lift the_desk (Lines before line)) (λ lined. writes lined.printed lined.now lined.fault)
+
+-- behind a line that was carried out the shell goes on, or stops
+abbrev pub goes_on : (State → RunMachine (Stop × State)) → Carried → RunMachine (Stop × State)
+goes_on next (Ok done, st) = next st
+goes_on next (Err halt, st) = give all (stop_of halt, st)
 
 -- At the end of the input the line that has begun is carried out, where it has a byte. Where the source
 -- failed it isn't.
-abbrev pub AtEnd : Bool → List ℕ → State → ByteMachine (Stop × State)
-AtEnd true begun st = give one_device (Input, st)
-AtEnd false [] st = give one_device (End, st)
-AtEnd false (b ∷ begun) st = and_then one_device (Carries (b ∷ begun) st) (λ r. goes_on (give one_device (End, r.1)) r.1 r.0)
+abbrev pub AtEnd : Bool → List ℕ → State → RunMachine (Stop × State)
+AtEnd true begun st = give all (Input, st)
+AtEnd false [] st = give all (End, st)
+AtEnd false (b ∷ begun) st = and_then all (Carries (b ∷ begun) st) (goes_on (λ now. give all (End, now)))
 
 -- The shell reads these bytes behind those of a line that has begun; it carries out each line at its line
 -- feed. Whether the source failed behind the last byte is told too.
-unfoldable pub Shell : List ℕ → Bool → List ℕ → State → ByteMachine (Stop × State)
+unfoldable pub Shell : List ℕ → Bool → List ℕ → State → RunMachine (Stop × State)
 Shell [] failed begun st answers run = AtEnd failed begun st answers run
 Shell (b ∷ bytes) failed begun st answers run =
     MatchBool (b == 10)
-    (and_then one_device (Carries (without_return begun) st) (λ r. goes_on (Shell bytes failed [] r.1) r.1 r.0) answers run)
+    (and_then all (Carries (without_return begun) st) (goes_on (λ now. Shell bytes failed [] now)) answers run)
     (Shell bytes failed (begun ++ b ∷ []) st answers run)

@@ -1,38 +1,56 @@
-ghost use Rattle.std.specs.Prelude.{◌≡◌, ℕ, List, [], ◌∷◌};
-ghost use Rattle.davsh.specs.Said.{state_of, said_text};
-ghost use Rattle.davsh.specs.Shell.{Answered};
+ghost use Rattle.std.specs.Prelude.{◌≡◌, ◌≢◌, ℕ, List, [], ◌∷◌};
+ghost use Rattle.dav_upload.specs.Desks.{disk_view};
+ghost use Rattle.davsh.specs.Answering.{DoesLine, IsFit};
+ghost use Rattle.davsh.specs.Said.{state_of};
 ghost use Rattle.davsh.specs.Pending.{Holds};
+ghost use Rattle.davsh.specs.declared.stop.Stop.TheVariants as stops;
 ghost use Rattle.davsh.specs.Carrying.{line_at, CarriesOn, ReadsPiece, ReadsAll, EndsOn};
 
 use crate::pending::{Fits, Pending};
 use crate::shell::{Said, Shell, text_of};
-use crate::stop::Stop;
+use crate::stop::{Halt, Stop, stop_of};
+use dav_deeds::DeskFault;
+use dav_disk::Disk;
 use dav_edge::{Sink, Source, put_whole};
 
-/// Carries out a line and writes its answer. Says whether the sink took it.
-fn carry_out<O: Sink>(out: &mut O, shell: &mut Shell, pending: &Pending, fed: bool) -> bool
-    ensures { (begun : List ℕ) → Holds pending.now begun
-        → CarriesOn (O.log out.old) (O.log out.new) (line_at fed begun) (state_of shell.old) (state_of shell.new) result }
+/// Carries out a line and writes its answer. Says why the shell stops, if it does.
+fn carry_out<O: Sink, D: Disk>(
+    out: &mut O,
+    shell: &mut Shell<D>,
+    pending: &Pending,
+    fed: bool,
+) -> Result<(), Halt>
+    requires { IsFit D.honest D.moment D.seen D.past shell.old }
+    ensures does { (begun : List ℕ) → Holds pending.now begun
+        → CarriesOn (disk_view D.honest D.moment D.seen D.past D.faults) (O.log out.old) (O.log out.new) shell.old.desk shell.new.desk
+        (line_at fed begun) (state_of shell.old) (state_of shell.new) result }
+    ensures fit { IsFit D.honest D.moment D.seen D.past shell.new }
 {
-    let said = answer_to(shell, pending, fed);
-    match put_whole(out, text_of(said, shell.closed.as_slice())) {
+    let said = match answer_to(shell, pending, fed) {
+        Ok(said) => said,
+        Err(fault) => return Err(Halt::Desk(fault)),
+    };
+    match put_whole(out, text_of(said, shell.text.as_slice())) {
         Ok(()) => {
             shell.count();
-            true
+            Ok(())
         }
-        Err(_) => false,
+        Err(_) => Err(Halt::Output),
     }
 }
 
-/// Carries out a line on the desk.
-fn answer_to(shell: &mut Shell, pending: &Pending, fed: bool) -> Said
-    ensures { (begun : List ℕ) → Holds pending.now begun
-        → Answered (state_of shell.old) (line_at fed begun) (said_text result shell.new.closed.items) (state_of shell.new) }
+/// Carries out a line on the desk. Answers the desk's fault where it was stopped.
+fn answer_to<D: Disk>(shell: &mut Shell<D>, pending: &Pending, fed: bool) -> Result<Said, DeskFault>
+    requires { IsFit D.honest D.moment D.seen D.past shell.old }
+    ensures does { (begun : List ℕ) → Holds pending.now begun
+        → DoesLine (disk_view D.honest D.moment D.seen D.past D.faults) shell.old.desk shell.new.desk
+        (state_of shell.old) (line_at fed begun) result shell.new.text.items (state_of shell.new) }
+    ensures fit { IsFit D.honest D.moment D.seen D.past shell.new }
 {
     match pending.fits {
         Fits::Whole => shell.answer(line_of(pending.bytes.as_slice(), fed)),
-        Fits::TooLong => shell.refuse(),
-        Fits::NoMemory => shell.starve(),
+        Fits::TooLong => Ok(shell.refuse()),
+        Fits::NoMemory => Ok(shell.starve()),
     }
 }
 
@@ -49,27 +67,44 @@ fn line_of(bytes: &[u8], fed: bool) -> &[u8]
     }
 }
 
-/// Carries out the lines that a piece of the input ends. Says whether the sink took their answers.
-fn carry_all<O: Sink>(out: &mut O, shell: &mut Shell, pending: &mut Pending, piece: &[u8]) -> bool
-    ensures { (begun : List ℕ) → Holds pending.old begun
-        → ReadsPiece (O.log out.old) (O.log out.new) piece.now begun pending.new (state_of shell.old) (state_of shell.new) result }
+/// Carries out the lines that a piece of the input ends. Says why the shell stops, if it does.
+fn carry_all<O: Sink, D: Disk>(
+    out: &mut O,
+    shell: &mut Shell<D>,
+    pending: &mut Pending,
+    piece: &[u8],
+) -> Result<(), Halt>
+    requires { IsFit D.honest D.moment D.seen D.past shell.old }
+    ensures does { (begun : List ℕ) → Holds pending.old begun
+        → ReadsPiece (disk_view D.honest D.moment D.seen D.past D.faults) (O.log out.old) (O.log out.new) shell.old.desk shell.new.desk
+        piece.now begun pending.new (state_of shell.old) (state_of shell.new) result }
+    ensures fit { IsFit D.honest D.moment D.seen D.past shell.new }
 {
     for byte in piece {
-        if !carry_byte(out, shell, pending, *byte) {
-            return false;
+        match carry_byte(out, shell, pending, *byte) {
+            Ok(()) => {}
+            Err(halt) => return Err(halt),
         }
     }
-    true
+    Ok(())
 }
 
-/// Reads one byte of the input. Where it ends a line, says whether the sink took its answer.
-fn carry_byte<O: Sink>(out: &mut O, shell: &mut Shell, pending: &mut Pending, byte: u8) -> bool
-    ensures { (begun : List ℕ) → Holds pending.old begun
-        → ReadsPiece (O.log out.old) (O.log out.new) (byte ∷ []) begun pending.new (state_of shell.old) (state_of shell.new) result }
+/// Reads one byte of the input. Where it ends a line, says why the shell stops, if it does.
+fn carry_byte<O: Sink, D: Disk>(
+    out: &mut O,
+    shell: &mut Shell<D>,
+    pending: &mut Pending,
+    byte: u8,
+) -> Result<(), Halt>
+    requires { IsFit D.honest D.moment D.seen D.past shell.old }
+    ensures does { (begun : List ℕ) → Holds pending.old begun
+        → ReadsPiece (disk_view D.honest D.moment D.seen D.past D.faults) (O.log out.old) (O.log out.new) shell.old.desk shell.new.desk
+        (byte ∷ []) begun pending.new (state_of shell.old) (state_of shell.new) result }
+    ensures fit { IsFit D.honest D.moment D.seen D.past shell.new }
 {
     if byte != b'\n' {
         pending.push(byte);
-        return true;
+        return Ok(());
     }
     let went = carry_out(out, shell, pending, true);
     pending.clear();
@@ -77,8 +112,16 @@ fn carry_byte<O: Sink>(out: &mut O, shell: &mut Shell, pending: &mut Pending, by
 }
 
 /// Reads the input to its end, and carries out each line.
-pub fn read_lines<S: Source, O: Sink>(input: &mut S, out: &mut O, shell: &mut Shell) -> Stop
-    ensures { ReadsAll (S.log input.old) (S.log input.new) (O.log out.old) (O.log out.new) (state_of shell.old) (state_of shell.new) result }
+pub fn read_lines<S: Source, O: Sink, D: Disk>(
+    input: &mut S,
+    out: &mut O,
+    shell: &mut Shell<D>,
+) -> Stop
+    requires { IsFit D.honest D.moment D.seen D.past shell.old }
+    ensures reads { ReadsAll (disk_view D.honest D.moment D.seen D.past D.faults) (S.log input.old) (S.log input.new) (O.log out.old) (O.log out.new)
+        shell.old.desk shell.new.desk
+        (state_of shell.old) (state_of shell.new) result }
+    ensures fit { IsFit D.honest D.moment D.seen D.past shell.new }
 {
     let mut pending = Pending::new(shell.alloc);
     loop {
@@ -89,23 +132,27 @@ pub fn read_lines<S: Source, O: Sink>(input: &mut S, out: &mut O, shell: &mut Sh
         if count == 0 {
             return carry_last(out, shell, &pending);
         }
-        if !carry_all(out, shell, &mut pending, &buf[..count]) {
-            return Stop::Output;
+        match carry_all(out, shell, &mut pending, &buf[..count]) {
+            Ok(()) => {}
+            Err(halt) => return stop_of(halt),
         }
     }
 }
 
 /// Carries out the line that the input's end ends, where it has a byte.
-fn carry_last<O: Sink>(out: &mut O, shell: &mut Shell, pending: &Pending) -> Stop
-    ensures { (begun : List ℕ) → Holds pending.now begun
-        → EndsOn (O.log out.old) (O.log out.new) begun (state_of shell.old) (state_of shell.new) result }
+fn carry_last<O: Sink, D: Disk>(out: &mut O, shell: &mut Shell<D>, pending: &Pending) -> Stop
+    requires { IsFit D.honest D.moment D.seen D.past shell.old }
+    ensures does { (begun : List ℕ) → Holds pending.now begun
+        → EndsOn (disk_view D.honest D.moment D.seen D.past D.faults) (O.log out.old) (O.log out.new) shell.old.desk shell.new.desk
+        begun (state_of shell.old) (state_of shell.new) result }
+    ensures other { result ≢ stops.Input }
+    ensures fit { IsFit D.honest D.moment D.seen D.past shell.new }
 {
     if pending.is_empty() {
         return Stop::End;
     }
-    if carry_out(out, shell, pending, false) {
-        Stop::End
-    } else {
-        Stop::Output
+    match carry_out(out, shell, pending, false) {
+        Ok(()) => Stop::End,
+        Err(halt) => stop_of(halt),
     }
 }

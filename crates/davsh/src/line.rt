@@ -1,6 +1,6 @@
 ghost use Rattle.std.specs.Prelude.{IfOk, MatchOption, IsTrue, ◌↔◌};
 ghost use Rattle.std.specs.Prelude.{◌≡◌};
-ghost use Rattle.dav_text.specs.Path.{PathParts};
+ghost use Rattle.dav_text.specs.Path.{PathParts, IsPath};
 ghost use Rattle.davsh.specs.Line.{IsPut, IsNoPut, IsFileWord, IsArgument, IsPlain, IsUnbroken, IsFirstBlank, IsSplit, is_bare};
 
 use dav_text::{Blob, Memory, Path, PathFault};
@@ -19,7 +19,8 @@ pub struct Put {
 
 /// The store that the line asks for at the current path, where it is `fput`, a path of a file and printable characters.
 pub fn read_put(alloc: Global, current: &Path, line: &[u8]) -> Result<Option<Put>, Memory>
-    ensures { IfOk result (λ put. MatchOption put (IsNoPut current.now line.now) (λ p. IsPut current.now line.now p.path p.bytes)) }
+    requires { IsPath current.now }
+    ensures { IfOk result (λ put. MatchOption put (IsNoPut current.now line.now) (λ p. IsPut current.now line.now p.path p.bytes × IsPath p.path)) }
 {
     if line.len() >= LINE_MAX {
         return Ok(None);
@@ -38,7 +39,8 @@ pub fn read_put(alloc: Global, current: &Path, line: &[u8]) -> Result<Option<Put
 
 /// The path of a file that the word is at the current path, if it is one.
 fn file_word(alloc: Global, current: &Path, word: &str) -> Result<Option<Path>, Memory>
-    ensures { IfOk result (λ path. MatchOption path ((p : PathParts) → ¬ (IsFileWord current.now word.now p)) (IsFileWord current.now word.now)) }
+    requires { IsPath current.now }
+    ensures { IfOk result (λ path. MatchOption path ((p : PathParts) → ¬ (IsFileWord current.now word.now p)) (λ p. IsFileWord current.now word.now p × IsPath p)) }
 {
     if !is_bare(word.as_bytes()) {
         return Ok(None);

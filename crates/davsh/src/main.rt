@@ -1,9 +1,13 @@
 //! davsh: a shell for files on a WebDAV server.
 #![tactic(auto)]
 
-mod drain;
+mod ask;
+mod cause;
+#[cfg(test)]
+mod disk_tests;
 mod ended;
 mod input;
+mod last_line;
 mod line;
 #[cfg(test)]
 mod model_tests;
@@ -18,13 +22,16 @@ mod tests;
 mod whole;
 mod words;
 
-use ended::Status;
+use dav_real::FolderDisk;
 use real::{ReaderSource, TcpWire, WriterSink};
 use std::alloc::Global;
 use std::process::ExitCode;
 use std::rt::Env;
-use std::{env, io};
+use std::{env, fs, io};
 use whole::run;
+
+/// The folder of the cache, in the folder where the program is started.
+const CACHE: &str = "davcache";
 
 /// The words behind the program's name.
 fn words_of(rt: &(impl Env + AllocGlobal)) -> io::Result<Vec<String>> {
@@ -43,12 +50,16 @@ fn main(rt: HostRuntime) -> ExitCode {
     let mut input = ReaderSource::new(rt.stdin());
     let mut out = WriterSink::new(rt.stdout());
     let mut up_wire = TcpWire::new(&rt);
-    let (status, _ended) = run(
+    // Where it is not there and cannot be made, the disk fails.
+    let _ = fs::create_dir_all(&rt, CACHE);
+    let disk = FolderDisk::new(&rt, CACHE);
+    let (status, _disk, _ended) = run(
         rt.alloc(),
         words.as_slice(),
         &mut input,
         &mut out,
         &mut up_wire,
+        disk,
     );
     ExitCode::from(status.code())
 }

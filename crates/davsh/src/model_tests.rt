@@ -1,8 +1,6 @@
 //! A run whose devices fail at each of their calls in turn, beside a plain model of the program.
 
-use crate::ended::Status;
 use crate::tests::{Outcome, on_input, outcome_of};
-use dav_desk::Kept;
 use std::alloc::{AllocError, Global};
 use std::test::Fail;
 
@@ -119,7 +117,7 @@ struct File {
 /// What the run is to come to.
 #[derive(Drop)]
 struct Model {
-    status: Status,
+    status: u8,
     out: Vec<u8>,
     sent: Vec<Vec<u8>>,
     files: Vec<File>,
@@ -129,7 +127,7 @@ struct Model {
 impl Model {
     fn new(alloc: Global) -> Model {
         Model {
-            status: Status::Done,
+            status: 0,
             out: Vec::new(alloc),
             sent: Vec::new(alloc),
             files: Vec::new(alloc),
@@ -250,7 +248,7 @@ fn carry(
             Some((path, bytes)) => model.store(path, bytes, number)?,
             None => {
                 if !line.answer.is_empty() {
-                    model.status = Status::Faults;
+                    model.status = 1;
                 }
             }
         }
@@ -282,11 +280,11 @@ fn model_of(alloc: Global, source: u64, sink: u64, wire: u64) -> Result<Model, A
     };
     let failed = source < 5;
     if !carry(&mut model, &mut out, given, failed)? {
-        model.status = Status::Output;
+        model.status = 5;
         return Ok(model);
     }
     if failed {
-        model.status = Status::Input;
+        model.status = 4;
         out.give(&mut model.out, b"end: input\n")?;
         return Ok(model);
     }
@@ -300,46 +298,24 @@ fn model_of(alloc: Global, source: u64, sink: u64, wire: u64) -> Result<Model, A
         left.push(digit(lost))?;
         left.push(b'\n')?;
         if !out.give(&mut model.out, left.as_slice())? {
-            model.status = Status::Output;
+            model.status = 5;
         }
     }
     Ok(model)
 }
 
-/// Whether these are the files with this fate, in their order.
-fn are_kept(alloc: Global, kept: &Kept, files: &[File], fate: Fate) -> Result<bool, Fail> {
-    let mut at = 0usize;
-    for file in files {
-        if file.fate != fate {
-            continue;
-        }
-        if at >= kept.len() {
-            return Ok(false);
-        }
-        let mut path = Vec::new(alloc);
-        kept.path(at).escaped_into(&mut path)?;
-        if path.as_slice() != file.path || kept.bytes(at).as_slice() != file.bytes {
-            return Ok(false);
-        }
-        at += 1;
-    }
-    Ok(at == kept.len())
-}
-
-fn is_as(alloc: Global, outcome: &Outcome, model: &Model) -> Result<bool, Fail> {
+fn is_as(outcome: &Outcome, model: &Model) -> bool {
     if outcome.up.len() != model.sent.len() {
-        return Ok(false);
+        return false;
     }
     for (made, sent) in outcome.up.iter().zip(model.sent.iter()) {
         if made.sent.as_slice() != sent.as_slice() {
-            return Ok(false);
+            return false;
         }
     }
-    let files = model.files.as_slice();
-    let queued = are_kept(alloc, &outcome.ended.queued, files, Fate::Queued)?;
-    let lost = are_kept(alloc, &outcome.ended.lost, files, Fate::Lost)?;
     let said = outcome.status == model.status && outcome.out.as_slice() == model.out.as_slice();
-    Ok(said && queued && lost && !outcome.ended.starved && outcome.ended.done == model.done)
+    let lost = outcome.lost == u32::from(model.count(Fate::Lost));
+    said && lost && !outcome.starved && outcome.done == model.done
 }
 
 const NEVER: u64 = 1_000_000;
@@ -359,7 +335,7 @@ fn agree(alloc: Global, source: u64, sink: u64, wire: u64) -> Result<bool, Fail>
     script.up_fails = up_fails.as_slice();
     let outcome = outcome_of(alloc, &script)?;
     let model = model_of(alloc, source, sink, wire)?;
-    is_as(alloc, &outcome, &model)
+    Ok(is_as(&outcome, &model))
 }
 
 #[test]
@@ -369,7 +345,7 @@ fn a_run_is_the_models_whichever_call_fails(rt: HostRuntime) -> Result<(), Fail>
     let out: &[u8] =
         b"closed /a 3\nfault: syntax early 0\nclosed /b 3\nclosed /a 5\nclosed /c 4\nleft: queued 1 lost 1\n";
     assert!(rt; plain.out.as_slice() == out);
-    assert_eq!(rt; plain.status, Status::Faults);
+    assert_eq!(rt; plain.status, 1);
     assert_eq!(rt; plain.sent.len(), 3);
     assert!(rt; plain.sent[0].as_slice().ends_with(b"\r\n\r\ntwo"));
     assert!(rt; agree(alloc, NEVER, NEVER, NEVER)?);

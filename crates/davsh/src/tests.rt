@@ -1,5 +1,6 @@
-use crate::ended::{Ended, Status};
+use crate::ended::Ended;
 use crate::whole::run;
+use dav_disk::MemDisk;
 use dav_edge::{MemConnection, MemSink, MemSource, MemWire, Stream};
 use std::alloc::{AllocError, Global};
 use std::test::Fail;
@@ -7,8 +8,15 @@ use std::test::Fail;
 /// What a run came to.
 #[derive(Drop)]
 pub struct Outcome {
-    pub status: Status,
-    pub ended: Ended,
+    pub status: u8,
+    /// The moments of the run's steps.
+    pub steps: Vec<u64>,
+    /// Whether the disk failed in a step whose writing had begun.
+    pub under: bool,
+    pub lost: u32,
+    pub starved: bool,
+    pub done: u64,
+    pub disk: MemDisk,
     pub out: Vec<u8>,
     pub up: Vec<MemConnection>,
 }
@@ -22,10 +30,11 @@ pub struct Script<'a> {
     pub input_fails: &'a [u64],
     pub out_fails: &'a [u64],
     pub up_fails: &'a [u64],
+    pub disk_fails: &'a [u64],
     pub most: usize,
 }
 
-const CREATED: &[u8] = b"HTTP/1.1 201 Created\r\nETag: \"1\"\r\nContent-Length: 0\r\n\r\n";
+pub const CREATED: &[u8] = b"HTTP/1.1 201 Created\r\nETag: \"1\"\r\nContent-Length: 0\r\n\r\n";
 
 pub fn on_input<'a>(input: &'a [u8], streams: &'a [&'a [u8]]) -> Script<'a> {
     Script {
@@ -35,11 +44,23 @@ pub fn on_input<'a>(input: &'a [u8], streams: &'a [&'a [u8]]) -> Script<'a> {
         input_fails: &[],
         out_fails: &[],
         up_fails: &[],
+        disk_fails: &[],
         most: 1024,
     }
 }
 
+/// A run over an empty cache.
 pub fn outcome_of(alloc: Global, script: &Script<'_>) -> Result<Outcome, AllocError> {
+    let fails = Vec::from_slice(alloc, script.disk_fails)?;
+    outcome_over(alloc, script, MemDisk::new(alloc, fails))
+}
+
+/// A run over a disk.
+pub fn outcome_over(
+    alloc: Global,
+    script: &Script<'_>,
+    disk: MemDisk,
+) -> Result<Outcome, AllocError> {
     let mut words = Vec::new(alloc);
     words.push(String::from_str(alloc, script.word)?)?;
     let mut streams = Vec::new(alloc);
@@ -58,17 +79,52 @@ pub fn outcome_of(alloc: Global, script: &Script<'_>) -> Result<Outcome, AllocEr
     );
     let up_fails = Vec::from_slice(alloc, script.up_fails)?;
     let mut up_wire = MemWire::new(alloc, streams, script.most, up_fails);
-    let (status, ended) = run(alloc, words.as_slice(), &mut input, &mut out, &mut up_wire);
+    let (status, disk, ended) = run(
+        alloc,
+        words.as_slice(),
+        &mut input,
+        &mut out,
+        &mut up_wire,
+        disk,
+    );
+    told_of(alloc, status.code(), &ended, disk, out.written(), &up_wire)
+}
+
+/// What is told of a run that ended so.
+fn told_of(
+    alloc: Global,
+    status: u8,
+    ended: &Ended,
+    disk: MemDisk,
+    written: &[u8],
+    up_wire: &MemWire,
+) -> Result<Outcome, AllocError> {
+    let steps = moments_of(alloc, ended)?;
+    let out = Vec::from_slice(alloc, written)?;
     let up = match up_wire.connections()? {
         Some(up) => up,
         None => Vec::new(alloc),
     };
     Ok(Outcome {
         status,
-        ended,
-        out: Vec::from_slice(alloc, out.written())?,
+        steps,
+        under: ended.under.is_some(),
+        lost: ended.lost,
+        starved: ended.starved,
+        done: ended.done,
+        disk,
+        out,
         up,
     })
+}
+
+/// The moments of the steps of a run.
+fn moments_of(alloc: Global, ended: &Ended) -> Result<Vec<u64>, AllocError> {
+    let mut moments = Vec::new(alloc);
+    for step in &ended.trace.steps {
+        moments.push(step.moment)?;
+    }
+    Ok(moments)
 }
 
 #[test]
@@ -81,12 +137,11 @@ fn one_store_becomes_one_conditional_put(rt: HostRuntime) -> Result<(), Fail> {
         let mut one = on_input(b"fput /a hello\n", streams.as_slice());
         one.most = most;
         let outcome = outcome_of(alloc, &one)?;
-        assert_eq!(rt; outcome.status, Status::Done);
+        assert_eq!(rt; outcome.status, 0);
         assert!(rt; outcome.out.as_slice() == b"closed /a 5\n".as_slice());
-        assert!(rt; !outcome.ended.starved);
-        assert_eq!(rt; outcome.ended.done, 1);
-        assert!(rt; outcome.ended.queued.is_empty());
-        assert!(rt; outcome.ended.lost.is_empty());
+        assert!(rt; !outcome.starved);
+        assert_eq!(rt; outcome.done, 1);
+        assert_eq!(rt; outcome.lost, 0);
         assert_eq!(rt; outcome.up.len(), 1);
         assert!(rt; outcome.up[0].sent.as_slice() == want);
         assert!(rt; outcome.up[0].host.as_str() == "h");
@@ -103,7 +158,7 @@ fn only_the_last_store_of_a_path_is_sent(rt: HostRuntime) -> Result<(), Fail> {
         alloc,
         &on_input(b"fput /a one\nfput /a two\n", streams.as_slice()),
     )?;
-    assert_eq!(rt; outcome.status, Status::Done);
+    assert_eq!(rt; outcome.status, 0);
     assert!(rt; outcome.out.as_slice() == b"closed /a 3\nclosed /a 3\n".as_slice());
     assert_eq!(rt; outcome.up.len(), 1);
     assert!(rt; outcome.up[0].sent.as_slice().ends_with(b"\r\n\r\ntwo"));
@@ -131,13 +186,11 @@ fn what_the_server_did_not_take_stays_queued(rt: HostRuntime) -> Result<(), Fail
     for (at, reply) in replies.iter().enumerate() {
         let streams = [*reply];
         let outcome = outcome_of(alloc, &on_input(b"fput /a x\n", streams.as_slice()))?;
-        assert_eq!(rt; outcome.status, Status::Done, "at reply {at}");
+        assert_eq!(rt; outcome.status, 0, "at reply {at}");
         assert!(rt; outcome.out.as_slice() == b"closed /a 1\nleft: queued 1 lost 0\n".as_slice());
-        assert_eq!(rt; outcome.ended.queued.len(), 1);
-        assert!(rt; outcome.ended.queued.bytes(0).as_slice() == b"x".as_slice());
     }
     let no_stream = outcome_of(alloc, &on_input(b"fput /a b c\nfput /a x\n", &[]))?;
-    assert_eq!(rt; no_stream.status, Status::Faults);
+    assert_eq!(rt; no_stream.status, 1);
     let want: &[u8] = b"fault: syntax early 0\nclosed /a 1\nleft: queued 1 lost 0\n";
     assert!(rt; no_stream.out.as_slice() == want);
     Ok(())
@@ -157,12 +210,12 @@ fn a_whole_reply_in_any_form_counts(rt: HostRuntime) -> Result<(), Fail> {
     for (at, reply) in replies.iter().enumerate() {
         let streams = [*reply];
         let outcome = outcome_of(alloc, &on_input(b"fput /a x\n", streams.as_slice()))?;
-        assert_eq!(rt; outcome.status, Status::Done, "at reply {at}");
+        assert_eq!(rt; outcome.status, 0, "at reply {at}");
         assert!(rt;
             outcome.out.as_slice() == b"closed /a 1\n".as_slice(),
             "at reply {at}"
         );
-        assert!(rt; outcome.ended.queued.is_empty() && outcome.ended.lost.is_empty());
+        assert_eq!(rt; outcome.lost, 0);
     }
     Ok(())
 }
@@ -182,15 +235,10 @@ fn what_the_server_refused_is_lost(rt: HostRuntime) -> Result<(), Fail> {
     for (at, reply) in replies.iter().enumerate() {
         let streams = [*reply];
         let outcome = outcome_of(alloc, &on_input(b"fput /a hello\n", streams.as_slice()))?;
-        assert_eq!(rt; outcome.status, Status::Done, "at reply {at}");
+        assert_eq!(rt; outcome.status, 0, "at reply {at}");
         let want: &[u8] = b"closed /a 5\nleft: queued 0 lost 1\n";
         assert!(rt; outcome.out.as_slice() == want, "at reply {at}");
-        assert!(rt; outcome.ended.queued.is_empty());
-        assert_eq!(rt; outcome.ended.lost.len(), 1);
-        let mut path = Vec::new(alloc);
-        outcome.ended.lost.path(0).escaped_into(&mut path)?;
-        assert!(rt; path.as_slice() == b"/a".as_slice());
-        assert!(rt; outcome.ended.lost.bytes(0).as_slice() == b"hello".as_slice());
+        assert_eq!(rt; outcome.lost, 1);
     }
     Ok(())
 }
@@ -198,61 +246,33 @@ fn what_the_server_refused_is_lost(rt: HostRuntime) -> Result<(), Fail> {
 #[test]
 fn each_line_answers_by_itself(rt: HostRuntime) -> Result<(), Fail> {
     let alloc = rt.alloc();
-    let cases: [(&[u8], &[u8], Status); 17] = [
-        (b"", b"", Status::Done),
-        (b"\n\r\n\n", b"", Status::Done),
-        (
-            b"fput /a x\r\n",
-            b"closed /a 1\nleft: queued 1 lost 0\n",
-            Status::Done,
-        ),
-        (
-            b"fput /a x",
-            b"closed /a 1\nleft: queued 1 lost 0\n",
-            Status::Done,
-        ),
-        (b"fput /a x\r", b"fault: syntax early 0\n", Status::Faults),
-        (b"fput /a\n", b"fault: syntax early 0\n", Status::Faults),
-        (b"fput  /a x\n", b"fault: syntax early 0\n", Status::Faults),
-        (
-            b"fput /\xff x\n",
-            b"fault: syntax early 0\n",
-            Status::Faults,
-        ),
-        (
-            b"fput /a \"x\"\n",
-            b"fault: syntax early 0\n",
-            Status::Faults,
-        ),
+    let cases: [(&[u8], &[u8], u8); 17] = [
+        (b"", b"", 0),
+        (b"\n\r\n\n", b"", 0),
+        (b"fput /a x\r\n", b"closed /a 1\nleft: queued 1 lost 0\n", 0),
+        (b"fput /a x", b"closed /a 1\nleft: queued 1 lost 0\n", 0),
+        (b"fput /a x\r", b"fault: syntax early 0\n", 1),
+        (b"fput /a\n", b"fault: syntax early 0\n", 1),
+        (b"fput  /a x\n", b"fault: syntax early 0\n", 1),
+        (b"fput /\xff x\n", b"fault: syntax early 0\n", 1),
+        (b"fput /a \"x\"\n", b"fault: syntax early 0\n", 1),
         // A word is a path as it is typed, and names a file.
         (
             b"fput a/./b//c x\n",
             b"closed /a/b/c 1\nleft: queued 1 lost 0\n",
-            Status::Done,
+            0,
         ),
         (
             b"fput /a/../b%20\xc3\xa9 x\n",
             b"closed /b%2520%C3%A9 1\nleft: queued 1 lost 0\n",
-            Status::Done,
+            0,
         ),
-        (b"fput /a/ x\n", b"fault: syntax early 0\n", Status::Faults),
-        (
-            b"fput /a/.. x\n",
-            b"fault: syntax early 0\n",
-            Status::Faults,
-        ),
-        (b"fput . x\n", b"fault: syntax early 0\n", Status::Faults),
-        (b"fput  x\n", b"fault: syntax early 0\n", Status::Faults),
-        (
-            b"fput /a\tb x\n",
-            b"fault: syntax early 0\n",
-            Status::Faults,
-        ),
-        (
-            b"fput /a\"b x\n",
-            b"fault: syntax early 0\n",
-            Status::Faults,
-        ),
+        (b"fput /a/ x\n", b"fault: syntax early 0\n", 1),
+        (b"fput /a/.. x\n", b"fault: syntax early 0\n", 1),
+        (b"fput . x\n", b"fault: syntax early 0\n", 1),
+        (b"fput  x\n", b"fault: syntax early 0\n", 1),
+        (b"fput /a\tb x\n", b"fault: syntax early 0\n", 1),
+        (b"fput /a\"b x\n", b"fault: syntax early 0\n", 1),
     ];
     for (at, (input, want, status)) in cases.iter().enumerate() {
         let outcome = outcome_of(alloc, &on_input(input, &[]))?;
@@ -273,7 +293,7 @@ fn a_line_of_a_megabyte_answers_its_fault(rt: HostRuntime) -> Result<(), Fail> {
     let outcome = outcome_of(alloc, &on_input(input.as_slice(), &[]))?;
     let want: &[u8] = b"fault: syntax early 0\nclosed /b 1\nleft: queued 1 lost 0\n";
     assert!(rt; outcome.out.as_slice() == want);
-    assert_eq!(rt; outcome.ended.done, 2);
+    assert_eq!(rt; outcome.done, 2);
     Ok(())
 }
 
@@ -284,13 +304,13 @@ fn a_failing_device_ends_the_run(rt: HostRuntime) -> Result<(), Fail> {
     let mut source = on_input(b"fput /a x\n", &[]);
     source.input_fails = first.as_slice();
     let ended = outcome_of(alloc, &source)?;
-    assert_eq!(rt; ended.status, Status::Input);
+    assert_eq!(rt; ended.status, 4);
     assert!(rt; ended.out.as_slice() == b"end: input\n".as_slice());
     let mut sink = on_input(b"fput /a x\n", &[]);
     sink.out_fails = first.as_slice();
     let ended = outcome_of(alloc, &sink)?;
-    assert_eq!(rt; ended.status, Status::Output);
-    assert_eq!(rt; ended.ended.queued.len(), 1);
+    assert_eq!(rt; ended.status, 5);
+    assert_eq!(rt; ended.steps.len(), 1);
     assert_eq!(rt; ended.up.len(), 0);
     Ok(())
 }
@@ -317,7 +337,7 @@ fn other_words_are_refused(rt: HostRuntime) -> Result<(), Fail> {
             ..on_input(b"fput /a x\n", &[])
         };
         let ended = outcome_of(alloc, &one)?;
-        assert_eq!(rt; ended.status, Status::Words, "at word {at}");
+        assert_eq!(rt; ended.status, 2, "at word {at}");
         assert!(rt; ended.out.as_slice() == b"end: words\n".as_slice());
     }
     Ok(())
@@ -363,7 +383,7 @@ fn requests_go_to_the_base(rt: HostRuntime) -> Result<(), Fail> {
             ..on_input(b"fput a x\nfput /b y\n", streams.as_slice())
         };
         let ended = outcome_of(alloc, &one)?;
-        assert_eq!(rt; ended.status, Status::Done, "at case {at}");
+        assert_eq!(rt; ended.status, 0, "at case {at}");
         assert!(rt; ended.out.as_slice() == *out, "at case {at}");
         assert_eq!(rt; ended.up.len(), 2);
         for connection in &ended.up {

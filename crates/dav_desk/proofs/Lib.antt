@@ -1,9 +1,0 @@
-pub mod Places
-pub mod Searches
-pub mod Every
-pub mod Changes
-pub mod Within
-pub mod Steps
-pub mod Cases
-pub mod Files
-pub mod Laws
