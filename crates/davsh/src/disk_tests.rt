@@ -275,28 +275,56 @@ fn a_stop_at_any_call_leaves_the_file_queued_or_sent(rt: HostRuntime) -> Result<
     Ok(())
 }
 
+/// The number of a call that is not made.
+const NEVER: u64 = u64::MAX;
+
+/// A run in which `/a` is closed and sent, and this call of the disk fails.
+fn sending(alloc: Global, call: u64) -> Result<Outcome, Fail> {
+    let streams = [CREATED];
+    let fails = [call];
+    let mut script = on_input(b"fput /a hello\n", streams.as_slice());
+    script.disk_fails = fails.as_slice();
+    let outcome = outcome_of(alloc, &script)?;
+    Ok(outcome)
+}
+
+/// What such a run came to, and whether a run over what the disk holds then sends the bytes again.
+#[derive(Clone, Copy)]
+struct Failing {
+    status: u8,
+    told: bool,
+    closed: bool,
+    was_sent: bool,
+    again: Option<bool>,
+}
+
+fn failing_at(alloc: Global, call: u64) -> Result<Failing, Fail> {
+    let outcome = sending(alloc, call)?;
+    let left = stopped(alloc, &outcome.disk, outcome.disk.calls(), b"")?;
+    let again = recovers(alloc, left)?;
+    Ok(Failing {
+        status: outcome.status,
+        told: outcome.out.as_slice().ends_with(b"end: disk\n"),
+        closed: outcome.out.as_slice().starts_with(b"closed /a 5\n"),
+        was_sent: !outcome.up.is_empty(),
+        again,
+    })
+}
+
 #[test]
 fn each_failing_call_of_the_disk_ends_the_run(rt: HostRuntime) -> Result<(), Fail> {
     let alloc = rt.alloc();
-    let streams = [CREATED];
-    let plain = outcome_of(alloc, &on_input(b"fput /a hello\n", streams.as_slice()))?;
-    for call in 0..plain.disk.calls() {
-        let number = call;
-        let fails = [number];
-        let mut one = on_input(b"fput /a hello\n", streams.as_slice());
-        one.disk_fails = fails.as_slice();
-        let outcome = outcome_of(alloc, &one)?;
-        assert_eq!(rt; outcome.status, 3, "call {call}");
+    let plain = sending(alloc, NEVER)?;
+    let calls = plain.disk.calls();
+    for call in 0..calls {
+        let run = failing_at(alloc, call)?;
+        assert_eq!(rt; run.status, 3, "call {call}");
+        assert!(rt; run.told, "call {call}");
+        assert!(rt; run.again.is_some(), "call {call}");
         assert!(rt;
-            outcome.out.as_slice().ends_with(b"end: disk\n"),
+            !run.closed || run.was_sent || run.again == Some(true),
             "call {call}"
         );
-        let closed = outcome.out.as_slice().starts_with(b"closed /a 5\n");
-        let was_sent = !outcome.up.is_empty();
-        let left = stopped(alloc, &outcome.disk, outcome.disk.calls(), b"")?;
-        let again = recovers(alloc, left)?;
-        assert!(rt; again.is_some(), "call {call}");
-        assert!(rt; !closed || was_sent || again == Some(true), "call {call}");
     }
     Ok(())
 }
