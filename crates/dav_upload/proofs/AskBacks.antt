@@ -17,7 +17,7 @@ use Rattle.dav_deeds.specs.declared.deed.Mark.{Mark}
 use Rattle.dav_deeds.specs.declared.deed.Mark.TheVariants as marks
 use Rattle.dav_deeds.specs.declared.deed.Step.{Step}
 use Rattle.dav_deeds.specs.declared.fault.DeskFault.{DeskFault}
-use Rattle.dav_steps.specs.Verdict.{Verdict, Went, Stopped, Starved, with_bytes, result_by, steps_by, table_by}
+use Rattle.dav_desk.specs.Verdict.{Verdict, Went, Stopped, Starved, with_bytes, result_by, steps_by, table_by}
 use Rattle.dav_upload.specs.Asking.{Asked, answer_met, table_met, steps_met, table_through, steps_through}
 use Rattle.dav_upload.specs.Backs.{HasPut, HasPutOf, job_sent, Backs}
 use Rattle.dav_upload.specs.Desks.{HasBytesIf}

@@ -13,7 +13,7 @@ use Rattle.dav_deeds.specs.declared.deed.Deed.{Deed}
 use Rattle.dav_deeds.specs.declared.deed.Deed.TheVariants as deeds
 use Rattle.dav_deeds.specs.declared.deed.Step.{Step}
 use Rattle.dav_deeds.specs.declared.fault.DeskFault.{DeskFault}
-use Rattle.dav_steps.specs.Verdict.{Went, step_of, unless_idle, steps_by, table_by}
+use Rattle.dav_desk.specs.Verdict.{Went, step_of, unless_idle, steps_by, table_by}
 
 abbrev idle : Option Told
 idle = Some Idle

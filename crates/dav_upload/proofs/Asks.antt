@@ -18,11 +18,11 @@ use Rattle.dav_deeds.specs.declared.deed.Deed.TheVariants as deeds
 use Rattle.dav_deeds.specs.declared.ask.Who.TheVariants.{Uploader}
 use Rattle.dav_deeds.specs.declared.fault.DeskFault.{DeskFault}
 use Rattle.dav_deeds.specs.declared.fault.DeskFault.TheVariants as desk
-use Rattle.dav_steps.specs.declared.desk.Desk.{Desk}
-use Rattle.dav_steps.specs.Verdict.{Verdict, Went, Stopped, Starved, with_bytes, result_by, table_by}
-use Rattle.dav_steps.specs.Ended.{IsAsked}
-use Rattle.dav_steps.specs.Ends.{IsEnd}
-use Rattle.dav_steps.specs.Working.{AreGiven, HasBytes, HasSum}
+use Rattle.dav_desk.specs.declared.desk.Desk.{Desk}
+use Rattle.dav_desk.specs.Verdict.{Verdict, Went, Stopped, Starved, with_bytes, result_by, table_by}
+use Rattle.dav_desk.specs.Ended.{IsAsked}
+use Rattle.dav_desk.specs.Ends.{IsEnd}
+use Rattle.dav_desk.specs.Working.{AreGiven, HasBytes, HasSum}
 use Rattle.dav_upload.specs.declared.did.UploadFault.TheVariants as faults
 use Rattle.dav_upload.specs.Ending.{flight_in}
 use Rattle.dav_upload.specs.Asking.{Asked, Answered, Met, answer_met}

@@ -14,7 +14,7 @@ use Rattle.dav_deeds.specs.declared.answer.Job.{Job}
 use Rattle.dav_deeds.specs.declared.ask.Ask.TheVariants.{Settle}
 use Rattle.dav_deeds.specs.declared.ask.Done.{Done}
 use Rattle.dav_deeds.specs.declared.ask.Done.TheVariants as ends
-use Rattle.dav_steps.specs.Verdict.{Verdict, Went, Stopped, Starved, result_by}
+use Rattle.dav_desk.specs.Verdict.{Verdict, Went, Stopped, Starved, result_by}
 use Rattle.dav_upload.specs.declared.came.Came.{Came}
 use Rattle.dav_upload.specs.Backs.{HasPut, HasPutOf, job_sent}
 use Rattle.dav_upload.specs.Exchange.{Uploads, put_text}

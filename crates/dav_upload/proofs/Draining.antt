@@ -6,7 +6,7 @@ use Rattle.dav_uri.specs.Target.{BaseParts}
 use Rattle.dav_index.specs.Queries.{next_due}
 use Rattle.dav_deeds.specs.DeskTable.{DeskTable}
 use Rattle.dav_deeds.specs.declared.answer.Fated.{Fated}
-use Rattle.dav_steps.specs.declared.desk.Desk.{Desk}
+use Rattle.dav_desk.specs.declared.desk.Desk.{Desk}
 use Rattle.dav_upload.specs.declared.did.Did.{Did}
 use Rattle.dav_upload.specs.declared.did.Did.TheVariants as did
 use Rattle.dav_upload.specs.declared.did.UploadFault.{UploadFault}

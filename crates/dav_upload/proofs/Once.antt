@@ -14,7 +14,7 @@ use Rattle.dav_deeds.specs.declared.answer.Job.{Job}
 use Rattle.dav_deeds.specs.declared.ask.Ask.TheVariants.{Take, Settle}
 use Rattle.dav_deeds.specs.declared.ask.Done.{Done}
 use Rattle.dav_deeds.proofs.Paths.{segments_self}
-use Rattle.dav_steps.specs.Verdict.{Verdict, Went, Stopped, Starved, result_by, table_by}
+use Rattle.dav_desk.specs.Verdict.{Verdict, Went, Stopped, Starved, result_by, table_by}
 use Rattle.dav_upload.specs.declared.did.UploadFault.TheVariants as faults
 use Rattle.dav_upload.specs.Ending.{done_of, flight_in}
 use Rattle.dav_upload.specs.Asking.{Met, Asked, Answered, table_met, answer_met}

@@ -15,7 +15,7 @@ use Rattle.dav_deeds.specs.declared.fault.DeskFault.{DeskFault}
 use Rattle.dav_deeds.specs.declared.fault.DeskFault.TheVariants as desk
 use Rattle.dav_deeds.proofs.Sounds.{after_sound}
 use Rattle.dav_deeds.proofs.Taking.{IsTakenNow, job_step}
-use Rattle.dav_steps.specs.Verdict.{Verdict, Went, Stopped, Starved, result_by, table_by}
+use Rattle.dav_desk.specs.Verdict.{Verdict, Went, Stopped, Starved, result_by, table_by}
 use Rattle.dav_upload.specs.Resting.{IsOfShell, IsResting}
 use Rattle.dav_upload.proofs.Asks.{an_answer, a_fault}
 

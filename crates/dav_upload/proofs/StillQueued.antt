@@ -32,8 +32,8 @@ use Rattle.dav_deeds.specs.declared.deed.Step.{Step}
 use Rattle.dav_deeds.proofs.Entries.{changed_at, changed_other, entry_same, gone_at}
 use Rattle.dav_deeds.proofs.Paths.{by_test, same_self}
 use Rattle.dav_deeds.proofs.Taking.{table_push}
-use Rattle.dav_steps.specs.declared.desk.Desk.{Desk}
-use Rattle.dav_steps.specs.Verdict.{Verdict, Went, Stopped, Starved, step_of, steps_by, unless_idle, result_by, table_by}
+use Rattle.dav_desk.specs.declared.desk.Desk.{Desk}
+use Rattle.dav_desk.specs.Verdict.{Verdict, Went, Stopped, Starved, step_of, steps_by, unless_idle, result_by, table_by}
 use Rattle.dav_upload.specs.declared.did.Did.TheVariants as did
 use Rattle.dav_upload.specs.declared.did.Did.{Did}
 use Rattle.dav_upload.specs.declared.did.UploadFault.TheVariants as faults

@@ -13,7 +13,7 @@ use Rattle.dav_deeds.specs.DeskTable.{DeskTable}
 use Rattle.dav_deeds.specs.declared.answer.Fated.{Fated}
 use Rattle.dav_deeds.specs.declared.answer.Job.{Job}
 use Rattle.dav_deeds.specs.declared.ask.Ask.TheVariants as asks
-use Rattle.dav_steps.specs.declared.desk.Desk.{Desk}
+use Rattle.dav_desk.specs.declared.desk.Desk.{Desk}
 use Rattle.dav_upload.specs.declared.did.Did.TheVariants as did
 use Rattle.dav_upload.specs.declared.did.UploadFault.TheVariants as faults
 use Rattle.dav_upload.specs.Exchange.{Uploads}

@@ -21,10 +21,10 @@ use Rattle.dav_deeds.specs.declared.deed.Deed.{Deed}
 use Rattle.dav_deeds.specs.declared.deed.Step.{Step}
 use Rattle.dav_deeds.specs.declared.fault.DeskFault.{DeskFault}
 use Rattle.dav_cache.specs.Survives.{with_under}
-use Rattle.dav_steps.specs.declared.desk.Desk.{Desk}
-use Rattle.dav_steps.specs.Verdict.{Verdict, Went, Stopped, Starved, step_of, steps_by, unless_idle, result_by, table_by}
-use Rattle.dav_steps.specs.Ended.{HasCause, HasDied, WasDead}
-use Rattle.dav_steps.specs.Working.{AreGiven}
+use Rattle.dav_desk.specs.declared.desk.Desk.{Desk}
+use Rattle.dav_desk.specs.Verdict.{Verdict, Went, Stopped, Starved, step_of, steps_by, unless_idle, result_by, table_by}
+use Rattle.dav_desk.specs.Ended.{HasCause, HasDied, WasDead}
+use Rattle.dav_desk.specs.Working.{AreGiven}
 use Rattle.dav_upload.specs.declared.did.UploadFault.{UploadFault}
 use Rattle.dav_upload.specs.declared.did.UploadFault.TheVariants as faults
 use Rattle.dav_upload.specs.Backs.{HasPutOf, job_sent}

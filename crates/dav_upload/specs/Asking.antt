@@ -9,7 +9,7 @@ use Rattle.dav_deeds.specs.declared.ask.Ask.{Ask}
 use Rattle.dav_deeds.specs.declared.ask.Who.{Who}
 use Rattle.dav_deeds.specs.declared.deed.Step.{Step}
 use Rattle.dav_deeds.specs.declared.fault.DeskFault.{DeskFault}
-use Rattle.dav_steps.specs.Verdict.{Verdict, steps_by, table_by, result_by}
+use Rattle.dav_desk.specs.Verdict.{Verdict, steps_by, table_by, result_by}
 
 -- who asks what, and when
 pub record Asking : Type 0 where

@@ -6,10 +6,10 @@ use Rattle.dav_deeds.specs.DeskTable.{DeskTable}
 use Rattle.dav_deeds.specs.Legal.{IsAsk}
 use Rattle.dav_deeds.specs.declared.ask.Ask.{Ask}
 use Rattle.dav_deeds.specs.declared.ask.Who.TheVariants.{Uploader}
-use Rattle.dav_steps.specs.declared.desk.Desk.{Desk}
-use Rattle.dav_steps.specs.Verdict.{steps_by}
-use Rattle.dav_steps.specs.Ended.{HasCause}
-use Rattle.dav_steps.specs.Working.{AreGiven, HasBytes, HasSum, IsWorking, IsStopped}
+use Rattle.dav_desk.specs.declared.desk.Desk.{Desk}
+use Rattle.dav_desk.specs.Verdict.{steps_by}
+use Rattle.dav_desk.specs.Ended.{HasCause}
+use Rattle.dav_desk.specs.Working.{AreGiven, HasBytes, HasSum, IsWorking, IsStopped}
 use Rattle.dav_upload.specs.Asking.{asking, Met, Asked, Answered, table_met, answer_met}
 
 -- what the trait of a disk tells of one

@@ -15,7 +15,7 @@ use Rattle.dav_deeds.specs.declared.ask.Done.{Done}
 use Rattle.dav_deeds.specs.declared.ask.Who.TheVariants.{Uploader}
 use Rattle.dav_deeds.specs.declared.fault.DeskFault.{DeskFault}
 use Rattle.dav_deeds.specs.declared.fault.DeskFault.TheVariants as desk
-use Rattle.dav_steps.specs.declared.desk.Desk.{Desk}
+use Rattle.dav_desk.specs.declared.desk.Desk.{Desk}
 use Rattle.dav_upload.specs.declared.did.Did.{Did}
 use Rattle.dav_upload.specs.declared.did.Did.TheVariants as did
 use Rattle.dav_upload.specs.declared.did.UploadFault.{UploadFault}

@@ -13,7 +13,7 @@ use Rattle.dav_deeds.specs.declared.answer.Told.TheVariants.{Settled}
 use Rattle.dav_deeds.specs.declared.ask.Done.TheVariants.{Again}
 use Rattle.dav_deeds.specs.declared.deed.Deed.TheVariants.{Settle}
 use Rattle.dav_deeds.specs.declared.deed.Step.{Step}
-use Rattle.dav_steps.specs.declared.desk.Desk.{Desk}
+use Rattle.dav_desk.specs.declared.desk.Desk.{Desk}
 
 -- one of these steps settled the job of the path: its bytes are to be sent again, and they wait so since
 pub record IsAgain (t : DeskTable) (steps : List Step) (path : PathParts) (e : Entry) : Type 0 where

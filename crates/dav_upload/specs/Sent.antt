@@ -9,7 +9,7 @@ use Rattle.dav_deeds.specs.declared.answer.Answer.TheVariants.{Took}
 use Rattle.dav_deeds.specs.declared.answer.Flight.{Flight}
 use Rattle.dav_deeds.specs.declared.answer.Job.{Job}
 use Rattle.dav_deeds.specs.declared.deed.Step.{Step}
-use Rattle.dav_steps.specs.Verdict.{step_of}
+use Rattle.dav_desk.specs.Verdict.{step_of}
 use Rattle.dav_upload.specs.Backs.{job_sent, HasPutOf}
 use Rattle.dav_upload.specs.Exchange.{put_text}
 use Rattle.dav_upload.specs.Desks.{HasBytesIf}

@@ -4,7 +4,7 @@ ghost use Rattle.dav_edge.specs.Device.{DeviceLog};
 ghost use Rattle.dav_index.specs.Queries.{next_due};
 ghost use Rattle.dav_deeds.specs.DeskTable.{DeskTable};
 ghost use Rattle.dav_deeds.specs.Sound.{IsSound};
-ghost use Rattle.dav_steps.specs.Working.{IsReadied};
+ghost use Rattle.dav_desk.specs.Working.{IsReadied};
 ghost use Rattle.dav_upload.specs.Desks.{disk_view};
 ghost use Rattle.dav_upload.specs.Pair.{pair, PairGrew};
 ghost use Rattle.dav_upload.specs.Drain.{Drains};
@@ -14,9 +14,9 @@ ghost use Rattle.dav_upload.specs.Left.{LeavesAgain};
 
 use crate::did::{Did, UploadFault};
 use crate::turns::make_turn;
+use dav_desk::Desk;
 use dav_disk::Disk;
 use dav_edge::Wire;
-use dav_steps::Desk;
 use dav_uri::Base;
 use std::alloc::Global;
 

@@ -10,7 +10,7 @@ ghost use Rattle.dav_deeds.specs.DeskTable.{DeskTable, reopened};
 ghost use Rattle.dav_deeds.specs.Legal.{IsAsk, Legal, table_after};
 ghost use Rattle.dav_cache.specs.Recovers.{Recovers};
 ghost use Rattle.dav_cache.specs.Survives.{Survives, SurviveAll, with_under};
-ghost use Rattle.dav_steps.specs.Verdict.{Verdict, table_by};
+ghost use Rattle.dav_desk.specs.Verdict.{Verdict, table_by};
 ghost use Rattle.dav_upload.specs.Asking.{Asked, table_through, steps_through};
 ghost use Rattle.dav_upload.specs.Backs.{Backs};
 ghost use Rattle.dav_upload.specs.Drain.{Drained, Drains};

@@ -1,7 +1,7 @@
 ghost use Rattle.std.specs.Prelude.{◌≡◌, IfOk, OnOk, true};
 ghost use Rattle.dav_deeds.specs.Legal.{IsAsk};
 ghost use Rattle.dav_deeds.specs.declared.ask.Ask.TheVariants as asks;
-ghost use Rattle.dav_steps.specs.Working.{IsReadied};
+ghost use Rattle.dav_desk.specs.Working.{IsReadied};
 ghost use Rattle.dav_text.specs.Path.{IsPath};
 ghost use Rattle.dav_upload.specs.Resting.{IsOfShell, IsResting};
 
@@ -9,9 +9,9 @@ use crate::ending::send_job;
 use crate::exchange::upload;
 use crate::{Came, Did, UploadFault, drain, turn};
 use dav_deeds::{Ask, DeskFault, Done, Fated, Job, Who};
+use dav_desk::Desk;
 use dav_disk::{Disk, MemDisk};
 use dav_edge::{MemWire, Stream};
-use dav_steps::Desk;
 use dav_store::BodyId;
 use dav_text::{Blob, Path, Seen, Tag};
 use dav_uri::Base;

@@ -21,11 +21,11 @@ use Rattle.dav_deeds.specs.declared.deed.Deed.{Deed}
 use Rattle.dav_deeds.specs.declared.deed.Deed.TheVariants as deeds
 use Rattle.dav_deeds.specs.declared.fault.DeskFault.{DeskFault}
 use Rattle.dav_deeds.specs.declared.fault.DeskFault.TheVariants as faults
-use Rattle.dav_steps.specs.Ended.{IsAsked, HasCause}
-use Rattle.dav_steps.specs.Ends.{IsEnd, IsEndIfAny}
-use Rattle.dav_steps.specs.Verdict.{Verdict, Went, Stopped, Starved, with_bytes, result_by, table_by}
-use Rattle.dav_steps.specs.Working.{AreGiven, HasBytes, HasSum, IsReadied}
-use Rattle.dav_steps.specs.declared.desk.Desk.{Desk}
+use Rattle.dav_desk.specs.Ended.{IsAsked, HasCause}
+use Rattle.dav_desk.specs.Ends.{IsEnd, IsEndIfAny}
+use Rattle.dav_desk.specs.Verdict.{Verdict, Went, Stopped, Starved, with_bytes, result_by, table_by}
+use Rattle.dav_desk.specs.Working.{AreGiven, HasBytes, HasSum, IsReadied}
+use Rattle.dav_desk.specs.declared.desk.Desk.{Desk}
 use Rattle.dav_upload.specs.Asking.{asking, Met, Answered, Asks, answer_met}
 use Rattle.dav_upload.specs.Desks.{DiskView, Works, Stops, HasBytesIf, HasSumIf, WasAsked}
 use Rattle.dav_upload.specs.Resting.{IsOfShell, IsResting}

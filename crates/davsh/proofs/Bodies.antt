@@ -17,8 +17,8 @@ use Rattle.dav_deeds.specs.declared.ask.Ask.TheVariants.{Store, Forget, Take, Se
 use Rattle.dav_deeds.specs.declared.deed.Deed.{Deed}
 use Rattle.dav_deeds.specs.declared.deed.Deed.TheVariants as deeds
 use Rattle.dav_deeds.specs.declared.fault.DeskFault.{DeskFault}
-use Rattle.dav_steps.specs.Verdict.{Verdict, Went, Stopped, Starved, table_by}
-use Rattle.dav_steps.specs.Working.{AreGiven}
+use Rattle.dav_desk.specs.Verdict.{Verdict, Went, Stopped, Starved, table_by}
+use Rattle.dav_desk.specs.Working.{AreGiven}
 use Rattle.dav_upload.specs.Asking.{Asked, table_met}
 use Rattle.davsh.specs.Asked.{GivenBy, AllGiven}
 

@@ -12,7 +12,7 @@ use Rattle.dav_edge.specs.Device.{Happened, DeviceLog, Grew, received, given, is
 use Rattle.dav_edge.specs.Whole.{DoesOn, Sends}
 use Rattle.dav_edge.proofs.Taking.{given-append}
 use Rattle.dav_deeds.specs.declared.fault.DeskFault.{DeskFault}
-use Rattle.dav_steps.specs.declared.desk.Desk.{Desk}
+use Rattle.dav_desk.specs.declared.desk.Desk.{Desk}
 use Rattle.dav_upload.specs.Desks.{DiskView}
 use Rattle.davsh.specs.declared.pending.Pending.{Pending}
 use Rattle.davsh.specs.declared.stop.Halt.{Halt}

@@ -31,10 +31,10 @@ use Rattle.dav_deeds.specs.declared.fault.DeskFault.{DeskFault}
 use Rattle.dav_deeds.specs.declared.fault.DeskFault.TheVariants as faults
 use Rattle.dav_deeds.proofs.Paths.{not_back}
 use Rattle.dav_cache.specs.Opening.{IsFetchFault, IsStartFault, IsIndexOf}
-use Rattle.dav_steps.specs.Ended.{HasCause, HasDied}
-use Rattle.dav_steps.specs.Ends.{IsEnd}
-use Rattle.dav_steps.specs.Verdict.{Verdict, Went, Stopped, Starved, with_bytes, result_by, table_by}
-use Rattle.dav_steps.specs.declared.desk.Desk.{Desk}
+use Rattle.dav_desk.specs.Ended.{HasCause, HasDied}
+use Rattle.dav_desk.specs.Ends.{IsEnd}
+use Rattle.dav_desk.specs.Verdict.{Verdict, Went, Stopped, Starved, with_bytes, result_by, table_by}
+use Rattle.dav_desk.specs.declared.desk.Desk.{Desk}
 use Rattle.dav_upload.specs.Asking.{Met, Asked, Answered, table_met, answer_met}
 use Rattle.dav_upload.specs.Desks.{DiskView, WereAsked}
 use Rattle.dav_upload.proofs.Asks.{an_answer, a_fault}

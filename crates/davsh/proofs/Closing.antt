@@ -26,9 +26,9 @@ use Rattle.dav_deeds.specs.declared.deed.Mark.TheVariants as marks
 use Rattle.dav_deeds.specs.declared.deed.Step.{Step}
 use Rattle.dav_deeds.specs.declared.fault.DeskFault.{DeskFault}
 use Rattle.dav_deeds.specs.declared.fault.DeskFault.TheVariants as faults
-use Rattle.dav_steps.specs.Ends.{IsEnd}
-use Rattle.dav_steps.specs.Verdict.{Verdict, Went, Stopped, Starved, step_of, unless_idle, steps_by, table_by, with_bytes, result_by}
-use Rattle.dav_steps.specs.Working.{AreGiven}
+use Rattle.dav_desk.specs.Ends.{IsEnd}
+use Rattle.dav_desk.specs.Verdict.{Verdict, Went, Stopped, Starved, step_of, unless_idle, steps_by, table_by, with_bytes, result_by}
+use Rattle.dav_desk.specs.Working.{AreGiven}
 use Rattle.dav_upload.specs.Asking.{Met, Asked, Answered, table_met, answer_met}
 use Rattle.dav_upload.specs.Sent.{step_asked}
 use Rattle.dav_upload.proofs.Asks.{an_answer, a_fault}

@@ -9,7 +9,7 @@ use Rattle.dav_deeds.specs.DeskTable.{DeskTable}
 use Rattle.dav_deeds.specs.declared.ask.Ask.{Ask}
 use Rattle.dav_deeds.specs.declared.ask.Ask.TheVariants.{Store}
 use Rattle.dav_deeds.specs.declared.fault.DeskFault.{DeskFault}
-use Rattle.dav_steps.specs.declared.desk.Desk.{Desk}
+use Rattle.dav_desk.specs.declared.desk.Desk.{Desk}
 use Rattle.dav_upload.specs.Asking.{Asking, Met, Asked, Answered, answer_met, table_met, Asks}
 use Rattle.dav_upload.specs.Desks.{DiskView, WasAsked, WereAsked}
 use Rattle.davsh.specs.Answering.{DoesDesk, lined_of, said_text}

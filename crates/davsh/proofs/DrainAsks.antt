@@ -13,7 +13,7 @@ use Rattle.dav_deeds.specs.declared.ask.Ask.TheVariants as asks
 use Rattle.dav_deeds.specs.declared.ask.Done.{Done}
 use Rattle.dav_deeds.specs.declared.fault.DeskFault.{DeskFault}
 use Rattle.dav_deeds.specs.declared.fault.DeskFault.TheVariants as desk
-use Rattle.dav_steps.specs.Verdict.{Verdict, Went, Stopped, Starved, result_by}
+use Rattle.dav_desk.specs.Verdict.{Verdict, Went, Stopped, Starved, result_by}
 use Rattle.dav_upload.specs.declared.did.Did.TheVariants as did
 use Rattle.dav_upload.specs.declared.did.UploadFault.{UploadFault}
 use Rattle.dav_upload.specs.declared.did.UploadFault.TheVariants as faults

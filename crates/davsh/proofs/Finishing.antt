@@ -28,7 +28,7 @@ use Rattle.dav_deeds.specs.declared.ask.Ask.{Ask}
 use Rattle.dav_deeds.specs.declared.ask.Ask.TheVariants as asks
 use Rattle.dav_deeds.specs.declared.fault.DeskFault.{DeskFault}
 use Rattle.dav_deeds.specs.declared.fault.DeskFault.TheVariants as faults
-use Rattle.dav_steps.specs.Verdict.{Verdict, Went, Stopped, Starved, with_bytes, result_by}
+use Rattle.dav_desk.specs.Verdict.{Verdict, Went, Stopped, Starved, with_bytes, result_by}
 use Rattle.dav_upload.specs.Asking.{Asking, Met, Asked, Answered, table_met, answer_met, table_through, Asks}
 use Rattle.dav_upload.specs.Drain.{Drained, Drains}
 use Rattle.dav_upload.specs.Pair.{Answers as PairAnswers}

@@ -6,8 +6,8 @@ use Rattle.dav_deeds.specs.DeskTable.{DeskTable, started}
 use Rattle.dav_deeds.specs.Sound.{IsSound}
 use Rattle.dav_deeds.specs.declared.fault.DeskFault.{DeskFault}
 use Rattle.dav_deeds.specs.declared.fault.DeskFault.TheVariants as faults
-use Rattle.dav_steps.specs.Working.{IsReadied}
-use Rattle.dav_steps.specs.declared.desk.Desk.{Desk}
+use Rattle.dav_desk.specs.Working.{IsReadied}
+use Rattle.dav_desk.specs.declared.desk.Desk.{Desk}
 use Rattle.dav_upload.specs.Resting.{IsResting}
 use Rattle.davsh.specs.Answering.{IsFit, HasPath}
 use Rattle.davsh.specs.Causes.{cause_of}

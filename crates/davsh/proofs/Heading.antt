@@ -27,10 +27,10 @@ use Rattle.dav_deeds.proofs.Stories.{legal_front}
 use Rattle.dav_cache.specs.Recovers.{Recovers, AllRecover, Replays}
 use Rattle.dav_cache.specs.Stands.{IsGiven, IsIn, EachImage}
 use Rattle.dav_cache.specs.Survives.{IsFront, HasUnder, SurviveAll, with_under}
-use Rattle.dav_steps.specs.Ended.{HasCause}
-use Rattle.dav_steps.specs.Verdict.{Verdict, Went, Stopped, Starved, result_by, table_by}
-use Rattle.dav_steps.specs.Working.{AreGiven}
-use Rattle.dav_steps.specs.declared.desk.Desk.{Desk}
+use Rattle.dav_desk.specs.Ended.{HasCause}
+use Rattle.dav_desk.specs.Verdict.{Verdict, Went, Stopped, Starved, result_by, table_by}
+use Rattle.dav_desk.specs.Working.{AreGiven}
+use Rattle.dav_desk.specs.declared.desk.Desk.{Desk}
 use Rattle.dav_upload.specs.Asking.{Asked, table_met, answer_met, table_through, steps_through}
 use Rattle.dav_upload.specs.Backs.{Backs}
 use Rattle.dav_upload.specs.Desks.{DiskView, Works, Stops, HasBytesIf, WereAsked}

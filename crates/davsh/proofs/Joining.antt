@@ -7,7 +7,7 @@ use Rattle.dav_machine.proofs.Logs.{grows_same, grows_then}
 use Rattle.dav_machine.proofs.Reaching.{reaches_same, reaches_then, does_lifted}
 use Rattle.dav_edge.specs.Device.{DeviceLog, Grew, ByteMachine, is_failure}
 use Rattle.dav_edge.specs.Whole.{DoesOn}
-use Rattle.dav_steps.specs.declared.desk.Desk.{Desk}
+use Rattle.dav_desk.specs.declared.desk.Desk.{Desk}
 use Rattle.dav_upload.specs.Asking.{Asked}
 use Rattle.dav_upload.specs.Desks.{DiskView, WereAsked}
 use Rattle.dav_upload.specs.Pair.{pair, PairGrew, PairMachine}

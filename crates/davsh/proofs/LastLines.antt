@@ -14,7 +14,7 @@ use Rattle.dav_deeds.specs.declared.deed.Step.{Step}
 use Rattle.dav_deeds.specs.declared.fault.DeskFault.{DeskFault}
 use Rattle.dav_deeds.specs.declared.fault.DeskFault.TheVariants as faults
 use Rattle.dav_deeds.specs.declared.answer.Answer.{Answer as DeskAnswer}
-use Rattle.dav_steps.specs.declared.desk.Desk.{Desk}
+use Rattle.dav_desk.specs.declared.desk.Desk.{Desk}
 use Rattle.dav_upload.specs.Asking.{Answered, Asks}
 use Rattle.dav_upload.specs.Desks.{DiskView}
 use Rattle.dav_upload.specs.Drain.{Drained, Drains}

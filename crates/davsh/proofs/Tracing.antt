@@ -9,10 +9,10 @@ use Rattle.dav_deeds.specs.declared.answer.Told.TheVariants.{Closed, Forgot, Too
 use Rattle.dav_deeds.specs.declared.deed.Step.{Step}
 use Rattle.dav_deeds.specs.declared.fault.DeskFault.{DeskFault}
 use Rattle.dav_deeds.proofs.Sounds.{after_sound}
-use Rattle.dav_steps.specs.Ended.{HasCause}
-use Rattle.dav_steps.specs.Ends.{IsEnd}
-use Rattle.dav_steps.specs.Verdict.{Verdict, Went, Stopped, Starved, step_of, unless_idle, steps_by, table_by}
-use Rattle.dav_steps.specs.declared.desk.Desk.{Desk}
+use Rattle.dav_desk.specs.Ended.{HasCause}
+use Rattle.dav_desk.specs.Ends.{IsEnd}
+use Rattle.dav_desk.specs.Verdict.{Verdict, Went, Stopped, Starved, step_of, unless_idle, steps_by, table_by}
+use Rattle.dav_desk.specs.declared.desk.Desk.{Desk}
 use Rattle.dav_upload.specs.Asking.{Asked, table_met, table_through, steps_through}
 use Rattle.dav_upload.specs.Desks.{DiskView, WasAsked, WereAsked}
 use Rattle.dav_upload.specs.Sent.{step_asked}

@@ -6,8 +6,8 @@ use Rattle.dav_machine.specs.Machine.{Does}
 use Rattle.dav_text.specs.Path.{IsPath}
 use Rattle.dav_deeds.specs.declared.fault.DeskFault.{DeskFault}
 use Rattle.dav_deeds.specs.declared.fault.DeskFault.TheVariants as faults
-use Rattle.dav_steps.specs.Working.{IsReadied}
-use Rattle.dav_steps.specs.declared.desk.Desk.{Desk}
+use Rattle.dav_desk.specs.Working.{IsReadied}
+use Rattle.dav_desk.specs.declared.desk.Desk.{Desk}
 use Rattle.dav_upload.specs.Asking.{Asked}
 use Rattle.dav_upload.specs.Desks.{DiskView, WereAsked}
 use Rattle.dav_upload.specs.Resting.{IsResting}

@@ -3,8 +3,8 @@ use Rattle.std.specs.Prelude.{◌≡◌, ℕ, List, [], ◌∷◌, ◌++◌, Opt
 use Rattle.dav_deeds.specs.DeskTable.{DeskTable}
 use Rattle.dav_deeds.specs.declared.deed.Step.{Step}
 use Rattle.dav_deeds.specs.declared.fault.DeskFault.{DeskFault}
-use Rattle.dav_steps.specs.Verdict.{Verdict, Went, Stopped, Starved, step_of}
-use Rattle.dav_steps.specs.Working.{AreGiven}
+use Rattle.dav_desk.specs.Verdict.{Verdict, Went, Stopped, Starved, step_of}
+use Rattle.dav_desk.specs.Working.{AreGiven}
 use Rattle.dav_upload.specs.Asking.{Asked, answer_met, table_met, table_through}
 use Rattle.dav_upload.specs.Desks.{HasSumIf}
 

@@ -3,7 +3,7 @@ use Rattle.std.specs.Prelude.{◌≡◌, ◌<◌, ℕ, List, [], ◌∷◌, ◌+
 use Rattle.dav_machine.specs.Log.{any_failed}
 use Rattle.dav_machine.specs.Machine.{Reaches, Does}
 use Rattle.dav_edge.specs.Device.{Happened, happened, Receive, Fails, Gives, DeviceLog, Grew, given, is_failure}
-use Rattle.dav_steps.specs.declared.desk.Desk.{Desk}
+use Rattle.dav_desk.specs.declared.desk.Desk.{Desk}
 use Rattle.dav_upload.specs.Desks.{DiskView}
 use Rattle.davsh.specs.declared.pending.Pending.{Pending}
 use Rattle.davsh.specs.declared.stop.Halt.{Halt}

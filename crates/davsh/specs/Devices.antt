@@ -6,7 +6,7 @@ use Rattle.dav_machine.specs.Machine.{Machine}
 use Rattle.dav_machine.specs.Part.{Part}
 use Rattle.dav_edge.specs.Device.{Call, Answer, Happened, DeviceLog, Grew}
 use Rattle.dav_upload.specs.Asking.{Asking, Met, Asked}
-use Rattle.dav_steps.specs.declared.desk.Desk.{Desk}
+use Rattle.dav_desk.specs.declared.desk.Desk.{Desk}
 use Rattle.dav_upload.specs.Desks.{DiskView, WereAsked}
 use Rattle.dav_upload.specs.Pair.{pair, answers_of as answers_of_pair}
 

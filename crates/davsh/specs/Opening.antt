@@ -7,7 +7,7 @@ use Rattle.dav_deeds.specs.DeskTable.{started}
 use Rattle.dav_deeds.specs.Sound.{IsSound}
 use Rattle.dav_deeds.specs.declared.fault.DeskFault.{DeskFault}
 use Rattle.dav_index.specs.declared.table.Table.{Table}
-use Rattle.dav_steps.specs.declared.desk.Desk.{Desk}
+use Rattle.dav_desk.specs.declared.desk.Desk.{Desk}
 use Rattle.dav_upload.specs.Desks.{DiskView, Works}
 
 -- A desk that has started over the disk for this URL. Its table is the one that the disk's index spells; where each image recovers to one

@@ -7,7 +7,7 @@ use Rattle.dav_deeds.specs.declared.deed.Step.{Step}
 use Rattle.dav_deeds.specs.declared.fault.DeskFault.{DeskFault}
 use Rattle.dav_deeds.specs.declared.fault.DeskFault.TheVariants.{Memory}
 use Rattle.dav_uri.specs.Target.{BaseParts}
-use Rattle.dav_steps.specs.declared.desk.Desk.{Desk}
+use Rattle.dav_desk.specs.declared.desk.Desk.{Desk}
 use Rattle.dav_upload.specs.Desks.{DiskView}
 use Rattle.davsh.specs.declared.ended.Ended.{Ended}
 use Rattle.davsh.specs.declared.ended.Status.{Status}

@@ -2,15 +2,15 @@ ghost use Rattle.std.specs.Prelude.{◌≡◌, IfErr, OnOk, true};
 ghost use Rattle.dav_deeds.specs.Legal.{IsAsk};
 ghost use Rattle.dav_deeds.specs.declared.ask.Ask.TheVariants as asks;
 ghost use Rattle.dav_deeds.specs.declared.ask.Who.TheVariants as parties;
-ghost use Rattle.dav_steps.specs.Working.{IsReadied};
+ghost use Rattle.dav_desk.specs.Working.{IsReadied};
 ghost use Rattle.dav_upload.specs.Asking.{asking, Asks};
 ghost use Rattle.dav_upload.specs.Desks.{disk_view};
 ghost use Rattle.dav_upload.specs.Resting.{IsOfShell, IsResting};
 ghost use Rattle.davsh.specs.Answering.{DoesDesk, HasPath};
 
 use dav_deeds::{Answer, Ask, DeskFault, Who};
+use dav_desk::Desk;
 use dav_disk::Disk;
-use dav_steps::Desk;
 
 /// Asks the desk, in the name of the shell, at time 0. Answers as `Desk::step` does; the path that a crowded desk names is one.
 pub fn ask_desk<D: Disk>(desk: &mut Desk<D>, ask: &Ask) -> Result<Answer, DeskFault>

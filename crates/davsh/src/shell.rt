@@ -14,8 +14,8 @@ use crate::ask::ask_desk;
 use crate::cause::{Cause, cause_of};
 use crate::line::{Put, read_put};
 use dav_deeds::{Ask, DeskFault};
+use dav_desk::Desk;
 use dav_disk::Disk;
-use dav_steps::Desk;
 use dav_text::{Memory, Path, Which, decimal};
 use std::alloc::Global;
 

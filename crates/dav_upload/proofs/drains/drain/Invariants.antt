@@ -2,7 +2,7 @@ use Rattle.std.proofs.Common.{◌≡◌, ℕ, List, true}
 use Rattle.dav_machine.specs.Machine.{Reaches}
 use Rattle.dav_edge.specs.Device.{DeviceLog}
 use Rattle.dav_deeds.specs.DeskTable.{DeskTable}
-use Rattle.dav_steps.specs.Working.{IsReadied}
+use Rattle.dav_desk.specs.Working.{IsReadied}
 use Rattle.dav_upload.specs.AtWork.{IsAtWork}
 use Rattle.dav_upload.specs.Desks.{disk_view}
 use Rattle.dav_upload.specs.Drain.{Drains}

@@ -1,5 +1,5 @@
 use Rattle.std.proofs.Common.{Ok, true, false, refl, sym, subst, ap, ◌∙◌}
-use Rattle.dav_steps.specs.declared.desk.Desk.{Desk}
+use Rattle.dav_desk.specs.declared.desk.Desk.{Desk}
 use Rattle.dav_upload.specs.Desks.{disk_view}
 use Rattle.davsh.specs.Answering.{said_text}
 use Rattle.davsh.specs.Carrying.{line_at, CarriesOn}

@@ -1,7 +1,7 @@
 use Rattle.std.proofs.Common.{◌<◌, ℕ, List, length, refl, sym, ap, ◌∙◌, subst}
 use Rattle.dav_text.specs.Path.{PathParts}
 use Rattle.dav_deeds.specs.declared.deed.Trace.{Trace}
-use Rattle.dav_steps.specs.declared.desk.Desk.{Desk}
+use Rattle.dav_desk.specs.declared.desk.Desk.{Desk}
 use Rattle.dav_upload.specs.Desks.{disk_view}
 use Rattle.davsh.specs.Said.{state_of}
 use Rattle.davsh.specs.Opening.{HasStarted, HasNotStarted}

@@ -1,0 +1,111 @@
+-- How a desk goes on, or ends.
+use Rattle.std.proofs.Common.{◌≡◌, ◌≢◌, ◌⊎◌, inl, inr, ℕ, List, [], ◌∷◌, ◌++◌, Option, Some, None, Result, Ok, Err, refl, sym, ◌∙◌, ap, subst}
+use Rattle.std.specs.Prelude.{IfOk}
+use Rattle.sha2.specs.Sha256.{sha256}
+use Rattle.dav_disk.specs.Disk.{Doubt}
+use Rattle.dav_store.specs.Rows.{IsReady}
+use Rattle.dav_store.specs.View.{journal_end}
+use Rattle.dav_store.specs.declared.body_id.BodyId.{BodyId}
+use Rattle.dav_deeds.specs.Answers.{answer_of}
+use Rattle.dav_deeds.specs.DeskTable.{DeskTable}
+use Rattle.dav_deeds.specs.Effects.{after}
+use Rattle.dav_deeds.specs.Legal.{table_after}
+use Rattle.dav_deeds.specs.Made.{answer_by}
+use Rattle.dav_deeds.specs.declared.answer.Answer.{Answer}
+use Rattle.dav_deeds.specs.declared.answer.Flight.{Flight}
+use Rattle.dav_deeds.specs.declared.answer.Told.{Told}
+use Rattle.dav_deeds.specs.declared.answer.Told.TheVariants.{Closed, Forgot, Took, Idle, Settled, Stopping}
+use Rattle.dav_deeds.specs.declared.deed.Mark.{Mark}
+use Rattle.dav_deeds.specs.declared.deed.Mark.TheVariants as marks
+use Rattle.dav_deeds.specs.declared.deed.Step.{Step}
+use Rattle.dav_deeds.specs.declared.deed.Trace.{Trace}
+use Rattle.dav_deeds.specs.declared.fault.DeskFault.{DeskFault}
+use Rattle.dav_deeds.specs.declared.fault.DeskFault.TheVariants.{Disk, Memory}
+use Rattle.dav_deeds.proofs.Taking.{table_push}
+use Rattle.dav_cache.specs.Survives.{IsLive, IsLeft}
+use Rattle.dav_cache.specs.declared.recorder.Recorder.{Recorder}
+use Rattle.dav_cache.proofs.LiveLemmas.{stamped}
+use Rattle.dav_desk.specs.declared.desk.Desk.{Desk}
+use Rattle.dav_desk.specs.Ends.{IsEnd, IsEndIfAny}
+use Rattle.dav_desk.specs.Verdict.{with_bytes}
+use Rattle.dav_desk.specs.Working.{IsReadied, IsWorking, HasBytes, HasSum}
+use Rattle.dav_desk.proofs.Entering.{live_reserved}
+
+module _ {D : Type 0} (honest : Type 0) (moment : D → ℕ) (seen : D → ℕ → List ℕ) (past : D → ℕ → ℕ → Doubt) where
+  abbrev pub CanRecord : Recorder D → Type 0
+  CanRecord r = IsReady (journal_end r.journal) (seen r.disk 0) (past r.disk (moment r.disk) 0)
+
+  -- room for a step more was taken
+  pub readied_reserved : (old : Desk D) (r : Recorder D) → r ≡ record old.recorder { trace = r.trace } → IsReadied honest moment seen past old → IsReadied honest moment seen past (record old { recorder = r })
+  readied_reserved old r rest is =
+      subst (λ (x : Recorder D). IsReadied honest moment seen past (record old { recorder = x })) (sym rest) (record { index = is.index; end = is.end })
+
+  pub records_reserved : (old r : Recorder D) → r ≡ record old { trace = r.trace } → CanRecord old → CanRecord r
+  records_reserved old r rest is = subst CanRecord (sym rest) is
+
+  -- the desk lives on
+  pub readied_alive : (desk : Desk D) → desk.recorder.dead ≡ None → (honest → CanRecord desk.recorder) → IsReadied honest moment seen past desk
+  readied_alive desk alive can = record { index = λ h is. can h; end = subst IsEndIfAny (sym alive) tt }
+
+  -- or has died
+  pub readied_dead : (desk : Desk D) (fault : DeskFault) → desk.recorder.dead ≡ Some fault → IsEnd fault → IsReadied honest moment seen past desk
+  readied_dead desk fault dead end = record { index = λ h alive. not_both alive; end = subst IsEndIfAny (sym dead) end }
+    where
+      not_both : desk.recorder.dead ≡ None → CanRecord desk.recorder
+      not_both alive = let no : None ≡ Some fault = sym alive ∙ dead in cc no
+
+module _ {D : Type 0} (moment : D → ℕ) (seen : D → ℕ → List ℕ) (past : D → ℕ → ℕ → Doubt) (url : List ℕ) (opening : DeskTable) (start : ℕ) (given : ℕ → List ℕ) where
+  abbrev pub Works : Desk D → Type 0
+  Works desk = IsWorking moment seen past url opening start given desk
+
+  abbrev pub Lives : Recorder D → Type 0
+  Lives r = IsLive moment seen past url opening start given r
+
+  pub lives_reserved : (old r : Recorder D) → r ≡ record old { trace = r.trace } → r.trace.steps.items ≡ old.trace.steps.items → Lives old → Lives r
+  lives_reserved old r rest same is = subst Lives (sym rest) (live_reserved moment seen past url opening start given old r.trace same is)
+
+  -- the same steps
+  pub works_still : (old new : Desk D) → new.table ≡ old.table → new.recorder.trace.steps.items ≡ old.recorder.trace.steps.items → new.recorder.dead ≡ None → Works old → Lives new.recorder → Works new
+  works_still old new table items alive is live = record {
+    alive = alive;
+    table = table ∙ is.table ∙ ap (λ (l : List Step). table_after opening l) (sym items);
+    live = live;
+  }
+
+  -- one step more
+  pub works_on : (old new : Desk D) (s : Step) (n : ℕ) → new.table ≡ after old.table s.now s.deed → new.recorder.trace.steps.items ≡ old.recorder.trace.steps.items ++ stamped s n ∷ [] → new.recorder.dead ≡ None → Works old → Lives new.recorder → Works new
+  works_on old new s n table items alive is live = record {
+    alive = alive;
+    table = table ∙ ap (λ (t : DeskTable). after t s.now s.deed) is.table ∙ sym (table_push opening old.recorder.trace.steps.items (stamped s n)) ∙ ap (λ (l : List Step). table_after opening l) (sym items);
+    live = live;
+  }
+
+-- what is answered with bytes
+told_has : (P : Answer → Type 0) (mark : Mark) (told : Option Told) (bytes : List ℕ) → ((t : Told) → told ≡ Some t → P (answer_of t bytes)) → IfOk (with_bytes (answer_by mark told) bytes) P
+told_has P mark (Some t) bytes each = each t refl
+told_has P (marks.Refused fault) None bytes each = tt
+told_has P marks.Plain None bytes each = tt
+told_has P (marks.Body body) None bytes each = tt
+told_has P (marks.Job number) None bytes each = tt
+told_has P (marks.LostAs number) None bytes each = tt
+
+pub answer_has : (P : Answer → Type 0) (mark : Mark) (told : Option Told) (bytes : List ℕ) (answer : Result Told DeskFault) (result : Result Answer DeskFault) → result ≡ with_bytes answer bytes → answer ≡ answer_by mark told
+    → ((t : Told) → told ≡ Some t → P (answer_of t bytes)) → IfOk result P
+answer_has P mark told bytes answer result made is each =
+    subst (λ (r : Result Answer DeskFault). IfOk r P) (sym (made ∙ ap (λ (r : Result Told DeskFault). with_bytes r bytes) is)) (told_has P mark told bytes each)
+
+pub job_bytes : (given : ℕ → List ℕ) (bytes : List ℕ) (t : Told) → ((flight : Flight) → t ≡ Took flight → bytes ≡ given flight.body.file) → HasBytes given (answer_of t bytes)
+job_bytes given bytes (Closed body) of = tt
+job_bytes given bytes Forgot of = tt
+job_bytes given bytes (Took flight) of = of flight refl
+job_bytes given bytes Idle of = tt
+job_bytes given bytes (Settled fated) of = tt
+job_bytes given bytes Stopping of = tt
+
+pub job_sum : (bytes : List ℕ) (t : Told) → ((flight : Flight) → t ≡ Took flight → sha256 bytes ≡ flight.body.sum) → HasSum (answer_of t bytes)
+job_sum bytes (Closed body) of = tt
+job_sum bytes Forgot of = tt
+job_sum bytes (Took flight) of = of flight refl
+job_sum bytes Idle of = tt
+job_sum bytes (Settled fated) of = tt
+job_sum bytes Stopping of = tt

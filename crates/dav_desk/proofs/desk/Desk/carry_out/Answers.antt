@@ -1,0 +1,269 @@
+use Rattle.std.proofs.Common.{rules, ◌≡◌, ℕ, ◌<◌, List, length, Option, Some, None, refl, sym, ◌∙◌, ap, subst}
+use Rattle.std.specs.Prelude.{vec_capacity}
+use Rattle.std.proofs.lemmas.Result.{err_from_is_err_and}
+use Rattle.dav_deeds.specs.DeskTable.{DeskTable}
+use Rattle.dav_deeds.specs.Effects.{effect_of}
+use Rattle.dav_deeds.specs.Legal.{deed_of, new_body}
+use Rattle.dav_deeds.specs.Sound.{IsSound}
+use Rattle.dav_deeds.specs.declared.answer.Answer.{Answer}
+use Rattle.dav_deeds.specs.declared.answer.Told.{Told}
+use Rattle.dav_deeds.specs.declared.answer.Told.TheVariants.{Took}
+use Rattle.dav_deeds.specs.declared.deed.Deed.{Deed}
+use Rattle.dav_deeds.specs.declared.deed.Step.{Step}
+use Rattle.dav_deeds.specs.declared.deed.Trace.{Trace}
+use Rattle.dav_deeds.proofs.Sounds.{after_sound}
+use Rattle.dav_cache.specs.declared.recorder.Recorder.{Recorder}
+use Rattle.dav_desk.specs.Working.{IsWorking, HasBytes, HasSum}
+use Rattle.dav_desk.proofs.Carrying.{Base, Read, Stood, starved_asked, starved_readied, starved_faults, starved_works, starved_lives_on, missing_asked, missing_readied, read_faults, read_works, read_left, read_entry, read_named, lives, lives_read, entered_faults, failed_asked, failed_readied, failed_not_alive, went_asked, went_readied, went_works, went_lives_on}
+use Rattle.dav_desk.proofs.Entering.{row_fits, new_begins, freed_begin}
+use Rattle.dav_desk.proofs.Going.{records_reserved, answer_has, job_bytes, job_sum}
+use Rattle.dav_desk.proofs.desk.Desk.carry_out.Goals as goal
+
+pub returns-in_err-reserve-clause-asked : goal.returns-in_err-reserve-clause-asked
+returns-in_err-reserve-clause-asked g c =
+    let b : Base g.D.Disk.honest g.D.Disk.moment g.D.Disk.seen g.D.Disk.past c.args.self.now c.args.ask.now c.args.planned c.args.row.now c.reserve.new.self =
+    record { alive = c.requires.alive; sound = c.requires.sound; plan = c.requires.plan; readied = c.requires.readied; rest = c.reserve.ensures.rest; room = c.reserve.ensures.items } in
+    let p = err_from_is_err_and c.from_residual.result c.from_residual.ensures.1 in
+    rw (p.1, p.2) (starved_asked g.D.Disk.honest g.D.Disk.moment g.D.Disk.seen g.D.Disk.past g.D.Disk.faults c.args.self.now c.args.ask.now c.args.planned c.args.row.now c.reserve.new.self b)
+
+pub returns-in_err-reserve-clause-working : goal.returns-in_err-reserve-clause-working
+returns-in_err-reserve-clause-working g c h url opening start given has is dead =
+    let b : Base g.D.Disk.honest g.D.Disk.moment g.D.Disk.seen g.D.Disk.past c.args.self.now c.args.ask.now c.args.planned c.args.row.now c.reserve.new.self =
+    record { alive = c.requires.alive; sound = c.requires.sound; plan = c.requires.plan; readied = c.requires.readied; rest = c.reserve.ensures.rest; room = c.reserve.ensures.items } in
+    starved_works g.D.Disk.honest g.D.Disk.moment g.D.Disk.seen g.D.Disk.past g.D.Disk.faults c.args.self.now c.args.ask.now c.args.planned c.args.row.now c.reserve.new.self b url opening start given is
+
+pub returns-in_err-reserve-clause-stopped : goal.returns-in_err-reserve-clause-stopped
+returns-in_err-reserve-clause-stopped g c h url opening start given has is dead =
+    let b : Base g.D.Disk.honest g.D.Disk.moment g.D.Disk.seen g.D.Disk.past c.args.self.now c.args.ask.now c.args.planned c.args.row.now c.reserve.new.self =
+    record { alive = c.requires.alive; sound = c.requires.sound; plan = c.requires.plan; readied = c.requires.readied; rest = c.reserve.ensures.rest; room = c.reserve.ensures.items } in
+    absurd (starved_lives_on g.D.Disk.honest g.D.Disk.moment g.D.Disk.seen g.D.Disk.past g.D.Disk.faults c.args.self.now c.args.ask.now c.args.planned c.args.row.now c.reserve.new.self b dead)
+
+pub returns-in_err-reserve-clause-bytes : goal.returns-in_err-reserve-clause-bytes
+returns-in_err-reserve-clause-bytes g c =
+    let p = err_from_is_err_and c.from_residual.result c.from_residual.ensures.1 in
+    rw p.1 (λ h. tt)
+
+pub returns-in_err-reserve-clause-sum : goal.returns-in_err-reserve-clause-sum
+returns-in_err-reserve-clause-sum g c =
+    let p = err_from_is_err_and c.from_residual.result c.from_residual.ensures.1 in
+    rw p.1 tt
+
+pub returns-in_err-reserve-clause-sound : goal.returns-in_err-reserve-clause-sound
+returns-in_err-reserve-clause-sound g c =
+    c.requires.sound
+
+pub returns-in_err-reserve-clause-readied : goal.returns-in_err-reserve-clause-readied
+returns-in_err-reserve-clause-readied g c =
+    let b : Base g.D.Disk.honest g.D.Disk.moment g.D.Disk.seen g.D.Disk.past c.args.self.now c.args.ask.now c.args.planned c.args.row.now c.reserve.new.self =
+    record { alive = c.requires.alive; sound = c.requires.sound; plan = c.requires.plan; readied = c.requires.readied; rest = c.reserve.ensures.rest; room = c.reserve.ensures.items } in
+    starved_readied g.D.Disk.honest g.D.Disk.moment g.D.Disk.seen g.D.Disk.past g.D.Disk.faults c.args.self.now c.args.ask.now c.args.planned c.args.row.now c.reserve.new.self b
+
+pub returns-in_err-reserve-clause-faults : goal.returns-in_err-reserve-clause-faults
+returns-in_err-reserve-clause-faults g c =
+    let b : Base g.D.Disk.honest g.D.Disk.moment g.D.Disk.seen g.D.Disk.past c.args.self.now c.args.ask.now c.args.planned c.args.row.now c.reserve.new.self =
+    record { alive = c.requires.alive; sound = c.requires.sound; plan = c.requires.plan; readied = c.requires.readied; rest = c.reserve.ensures.rest; room = c.reserve.ensures.items } in
+    starved_faults g.D.Disk.honest g.D.Disk.moment g.D.Disk.seen g.D.Disk.past g.D.Disk.faults c.args.self.now c.args.ask.now c.args.planned c.args.row.now c.reserve.new.self b
+
+pub returns-in-Err-clause-asked : goal.returns-in-Err-clause-asked
+returns-in-Err-clause-asked g c =
+    let b : Base g.D.Disk.honest g.D.Disk.moment g.D.Disk.seen g.D.Disk.past c.args.self.now c.args.ask.now c.args.planned c.args.row.now c.reserve.new.self =
+    record { alive = c.requires.alive; sound = c.requires.sound; plan = c.requires.plan; readied = c.requires.readied; rest = c.reserve.ensures.rest; room = c.reserve.ensures.items } in
+    let k : Read g.D.Disk.honest g.D.Disk.moment g.D.Disk.seen g.D.Disk.past g.D.Disk.faults c.reserve.new.self c.told_bytes.new.recorder =
+    record { trace = c.told_bytes.ensures.trace; more = c.told_bytes.ensures.faults; ready = c.told_bytes.ensures.ready; live = c.told_bytes.ensures.live } in
+    missing_asked g.D.Disk.honest g.D.Disk.moment g.D.Disk.seen g.D.Disk.past g.D.Disk.faults c.args.self.now c.args.ask.now c.args.planned c.args.row.now c.reserve.new.self b c.told_bytes.new.recorder k c.in-Err.fault c.in-Err.ensures.fault c.in-Err.ensures.starved c.in-Err.ensures.stopped
+
+pub returns-in-Err-clause-working : goal.returns-in-Err-clause-working
+returns-in-Err-clause-working g c h url opening start given has is dead =
+    let b : Base g.D.Disk.honest g.D.Disk.moment g.D.Disk.seen g.D.Disk.past c.args.self.now c.args.ask.now c.args.planned c.args.row.now c.reserve.new.self =
+    record { alive = c.requires.alive; sound = c.requires.sound; plan = c.requires.plan; readied = c.requires.readied; rest = c.reserve.ensures.rest; room = c.reserve.ensures.items } in
+    let k : Read g.D.Disk.honest g.D.Disk.moment g.D.Disk.seen g.D.Disk.past g.D.Disk.faults c.reserve.new.self c.told_bytes.new.recorder =
+    record { trace = c.told_bytes.ensures.trace; more = c.told_bytes.ensures.faults; ready = c.told_bytes.ensures.ready; live = c.told_bytes.ensures.live } in
+    read_works g.D.Disk.honest g.D.Disk.moment g.D.Disk.seen g.D.Disk.past g.D.Disk.faults c.args.self.now c.args.ask.now c.args.planned c.args.row.now c.reserve.new.self b c.told_bytes.new.recorder k h url opening start given is dead
+
+pub returns-in-Err-clause-stopped : goal.returns-in-Err-clause-stopped
+returns-in-Err-clause-stopped g c h url opening start given has is dead =
+    let b : Base g.D.Disk.honest g.D.Disk.moment g.D.Disk.seen g.D.Disk.past c.args.self.now c.args.ask.now c.args.planned c.args.row.now c.reserve.new.self =
+    record { alive = c.requires.alive; sound = c.requires.sound; plan = c.requires.plan; readied = c.requires.readied; rest = c.reserve.ensures.rest; room = c.reserve.ensures.items } in
+    let k : Read g.D.Disk.honest g.D.Disk.moment g.D.Disk.seen g.D.Disk.past g.D.Disk.faults c.reserve.new.self c.told_bytes.new.recorder =
+    record { trace = c.told_bytes.ensures.trace; more = c.told_bytes.ensures.faults; ready = c.told_bytes.ensures.ready; live = c.told_bytes.ensures.live } in
+    read_left g.D.Disk.honest g.D.Disk.moment g.D.Disk.seen g.D.Disk.past g.D.Disk.faults c.args.self.now c.args.ask.now c.args.planned c.args.row.now c.reserve.new.self b c.told_bytes.new.recorder k h url opening start given is
+
+pub returns-in-Err-clause-sound : goal.returns-in-Err-clause-sound
+returns-in-Err-clause-sound g c =
+    c.requires.sound
+
+pub returns-in-Err-clause-readied : goal.returns-in-Err-clause-readied
+returns-in-Err-clause-readied g c =
+    let b : Base g.D.Disk.honest g.D.Disk.moment g.D.Disk.seen g.D.Disk.past c.args.self.now c.args.ask.now c.args.planned c.args.row.now c.reserve.new.self =
+    record { alive = c.requires.alive; sound = c.requires.sound; plan = c.requires.plan; readied = c.requires.readied; rest = c.reserve.ensures.rest; room = c.reserve.ensures.items } in
+    let k : Read g.D.Disk.honest g.D.Disk.moment g.D.Disk.seen g.D.Disk.past g.D.Disk.faults c.reserve.new.self c.told_bytes.new.recorder =
+    record { trace = c.told_bytes.ensures.trace; more = c.told_bytes.ensures.faults; ready = c.told_bytes.ensures.ready; live = c.told_bytes.ensures.live } in
+    missing_readied g.D.Disk.honest g.D.Disk.moment g.D.Disk.seen g.D.Disk.past g.D.Disk.faults c.args.self.now c.args.ask.now c.args.planned c.args.row.now c.reserve.new.self b c.told_bytes.new.recorder k c.in-Err.fault c.in-Err.ensures.fault c.in-Err.ensures.starved c.in-Err.ensures.stopped
+
+pub returns-in-Err-clause-faults : goal.returns-in-Err-clause-faults
+returns-in-Err-clause-faults g c =
+    let b : Base g.D.Disk.honest g.D.Disk.moment g.D.Disk.seen g.D.Disk.past c.args.self.now c.args.ask.now c.args.planned c.args.row.now c.reserve.new.self =
+    record { alive = c.requires.alive; sound = c.requires.sound; plan = c.requires.plan; readied = c.requires.readied; rest = c.reserve.ensures.rest; room = c.reserve.ensures.items } in
+    let k : Read g.D.Disk.honest g.D.Disk.moment g.D.Disk.seen g.D.Disk.past g.D.Disk.faults c.reserve.new.self c.told_bytes.new.recorder =
+    record { trace = c.told_bytes.ensures.trace; more = c.told_bytes.ensures.faults; ready = c.told_bytes.ensures.ready; live = c.told_bytes.ensures.live } in
+    read_faults g.D.Disk.honest g.D.Disk.moment g.D.Disk.seen g.D.Disk.past g.D.Disk.faults c.args.self.now c.args.ask.now c.args.planned c.args.row.now c.reserve.new.self b c.told_bytes.new.recorder k
+
+pub enter-requires-clause-fits : goal.enter-requires-clause-fits
+enter-requires-clause-fits g c =
+    row_fits c.args.self.now.table c.args.planned.made.step.now (deed_of c.args.self.now.table c.args.ask.now) c.args.row.now c.requires.sound c.requires.plan.is_deed c.requires.plan.row_is
+
+pub enter-requires-clause-fresh_apart : goal.enter-requires-clause-fresh_apart
+enter-requires-clause-fresh_apart g c id new =
+    new_begins c.args.self.now.table (deed_of c.args.self.now.table c.args.ask.now) id c.requires.sound c.requires.plan.is_deed (ap (λ (x : Deed). new_body x) (sym (ap (λ (s : Step). s.deed) c.requires.plan.step)) ∙ new)
+
+pub enter-requires-clause-freed_apart : goal.enter-requires-clause-freed_apart
+enter-requires-clause-freed_apart g c =
+    freed_begin c.args.self.now.table c.args.planned.made.step.now (deed_of c.args.self.now.table c.args.ask.now) c.as_slice.result.now c.requires.sound (c.as_slice.ensures.value ∙ c.requires.plan.released)
+
+pub enter-requires-clause-room : goal.enter-requires-clause-room
+enter-requires-clause-room g c =
+    subst (λ (x : Trace). length x.steps.items < vec_capacity x.steps) (sym c.told_bytes.ensures.trace.0) c.in_ok-reserve.ensures.room
+
+pub enter-requires-clause-ready : goal.enter-requires-clause-ready
+enter-requires-clause-ready g c h =
+    c.told_bytes.ensures.ready h (records_reserved g.D.Disk.honest g.D.Disk.moment g.D.Disk.seen g.D.Disk.past c.args.self.now.recorder c.reserve.new.self c.reserve.ensures.rest (c.requires.readied.index h c.requires.alive))
+
+pub returns-in-Err-enter-clause-asked : goal.returns-in-Err-enter-clause-asked
+returns-in-Err-enter-clause-asked g c =
+    let b : Base g.D.Disk.honest g.D.Disk.moment g.D.Disk.seen g.D.Disk.past c.args.self.now c.args.ask.now c.args.planned c.args.row.now c.reserve.new.self =
+    record { alive = c.requires.alive; sound = c.requires.sound; plan = c.requires.plan; readied = c.requires.readied; rest = c.reserve.ensures.rest; room = c.reserve.ensures.items } in
+    let k : Read g.D.Disk.honest g.D.Disk.moment g.D.Disk.seen g.D.Disk.past g.D.Disk.faults c.reserve.new.self c.told_bytes.new.recorder =
+    record { trace = c.told_bytes.ensures.trace; more = c.told_bytes.ensures.faults; ready = c.told_bytes.ensures.ready; live = c.told_bytes.ensures.live } in
+    failed_asked g.D.Disk.honest g.D.Disk.moment g.D.Disk.seen g.D.Disk.past g.D.Disk.faults c.args.self.now c.args.ask.now c.args.planned c.args.row.now c.reserve.new.self b c.told_bytes.new.recorder k c.enter.new.recorder c.enter.ensures.faults c.in-Err-enter.fault c.in-Err-enter.ensures.stopped
+
+pub returns-in-Err-enter-clause-working : goal.returns-in-Err-enter-clause-working
+returns-in-Err-enter-clause-working g c h url opening start given has is dead =
+    let b : Base g.D.Disk.honest g.D.Disk.moment g.D.Disk.seen g.D.Disk.past c.args.self.now c.args.ask.now c.args.planned c.args.row.now c.reserve.new.self =
+    record { alive = c.requires.alive; sound = c.requires.sound; plan = c.requires.plan; readied = c.requires.readied; rest = c.reserve.ensures.rest; room = c.reserve.ensures.items } in
+    let k : Read g.D.Disk.honest g.D.Disk.moment g.D.Disk.seen g.D.Disk.past g.D.Disk.faults c.reserve.new.self c.told_bytes.new.recorder =
+    record { trace = c.told_bytes.ensures.trace; more = c.told_bytes.ensures.faults; ready = c.told_bytes.ensures.ready; live = c.told_bytes.ensures.live } in
+    absurd (failed_not_alive g.D.Disk.honest g.D.Disk.moment g.D.Disk.seen g.D.Disk.past g.D.Disk.faults c.args.self.now c.args.ask.now c.args.planned c.args.row.now c.reserve.new.self b c.told_bytes.new.recorder k c.enter.new.recorder c.enter.ensures.faults c.in-Err-enter.ensures.stopped.1 dead)
+
+pub returns-in-Err-enter-clause-stopped : goal.returns-in-Err-enter-clause-stopped
+returns-in-Err-enter-clause-stopped g c h url opening start given has is dead =
+    let b : Base g.D.Disk.honest g.D.Disk.moment g.D.Disk.seen g.D.Disk.past c.args.self.now c.args.ask.now c.args.planned c.args.row.now c.reserve.new.self =
+    record { alive = c.requires.alive; sound = c.requires.sound; plan = c.requires.plan; readied = c.requires.readied; rest = c.reserve.ensures.rest; room = c.reserve.ensures.items } in
+    let k : Read g.D.Disk.honest g.D.Disk.moment g.D.Disk.seen g.D.Disk.past g.D.Disk.faults c.reserve.new.self c.told_bytes.new.recorder =
+    record { trace = c.told_bytes.ensures.trace; more = c.told_bytes.ensures.faults; ready = c.told_bytes.ensures.ready; live = c.told_bytes.ensures.live } in
+    c.in-Err-enter.ensures.left h url opening start given (read_entry g.D.Disk.honest g.D.Disk.moment g.D.Disk.seen g.D.Disk.past g.D.Disk.faults c.args.self.now c.args.ask.now c.args.planned c.args.row.now c.reserve.new.self b c.told_bytes.new.recorder k h url opening start given is has c.bytes_of.result.now c.as_slice.result.now c.bytes_of.ensures c.as_slice.ensures.value) (lives_read g.D.Disk.honest g.D.Disk.moment g.D.Disk.seen g.D.Disk.past g.D.Disk.faults c.args.self.now c.args.ask.now c.args.planned c.args.row.now c.reserve.new.self b c.told_bytes.new.recorder k h url opening start given is)
+
+pub returns-in-Err-enter-clause-sound : goal.returns-in-Err-enter-clause-sound
+returns-in-Err-enter-clause-sound g c =
+    c.requires.sound
+
+pub returns-in-Err-enter-clause-readied : goal.returns-in-Err-enter-clause-readied
+returns-in-Err-enter-clause-readied g c =
+    let b : Base g.D.Disk.honest g.D.Disk.moment g.D.Disk.seen g.D.Disk.past c.args.self.now c.args.ask.now c.args.planned c.args.row.now c.reserve.new.self =
+    record { alive = c.requires.alive; sound = c.requires.sound; plan = c.requires.plan; readied = c.requires.readied; rest = c.reserve.ensures.rest; room = c.reserve.ensures.items } in
+    let k : Read g.D.Disk.honest g.D.Disk.moment g.D.Disk.seen g.D.Disk.past g.D.Disk.faults c.reserve.new.self c.told_bytes.new.recorder =
+    record { trace = c.told_bytes.ensures.trace; more = c.told_bytes.ensures.faults; ready = c.told_bytes.ensures.ready; live = c.told_bytes.ensures.live } in
+    failed_readied g.D.Disk.honest g.D.Disk.moment g.D.Disk.seen g.D.Disk.past g.D.Disk.faults c.args.self.now c.args.ask.now c.args.planned c.args.row.now c.reserve.new.self b c.told_bytes.new.recorder k c.enter.new.recorder c.enter.ensures.faults c.in-Err-enter.ensures.stopped.1
+
+pub returns-in-Err-enter-clause-faults : goal.returns-in-Err-enter-clause-faults
+returns-in-Err-enter-clause-faults g c =
+    let b : Base g.D.Disk.honest g.D.Disk.moment g.D.Disk.seen g.D.Disk.past c.args.self.now c.args.ask.now c.args.planned c.args.row.now c.reserve.new.self =
+    record { alive = c.requires.alive; sound = c.requires.sound; plan = c.requires.plan; readied = c.requires.readied; rest = c.reserve.ensures.rest; room = c.reserve.ensures.items } in
+    let k : Read g.D.Disk.honest g.D.Disk.moment g.D.Disk.seen g.D.Disk.past g.D.Disk.faults c.reserve.new.self c.told_bytes.new.recorder =
+    record { trace = c.told_bytes.ensures.trace; more = c.told_bytes.ensures.faults; ready = c.told_bytes.ensures.ready; live = c.told_bytes.ensures.live } in
+    entered_faults g.D.Disk.honest g.D.Disk.moment g.D.Disk.seen g.D.Disk.past g.D.Disk.faults c.args.self.now c.args.ask.now c.args.planned c.args.row.now c.reserve.new.self b c.told_bytes.new.recorder k c.enter.new.recorder c.enter.ensures.faults
+
+pub apply-requires : goal.apply-requires
+apply-requires g c =
+    record { now = c.args.planned.made.step.now; deed = (deed_of c.args.self.now.table c.args.ask.now); is_deed = c.requires.plan.is_deed; change = c.requires.plan.change }
+
+pub same-bytes : goal.same-bytes
+same-bytes g c =
+    search rules
+
+pub returns-clause-asked : goal.returns-clause-asked
+returns-clause-asked g c =
+    let b : Base g.D.Disk.honest g.D.Disk.moment g.D.Disk.seen g.D.Disk.past c.args.self.now c.args.ask.now c.args.planned c.args.row.now c.reserve.new.self =
+    record { alive = c.requires.alive; sound = c.requires.sound; plan = c.requires.plan; readied = c.requires.readied; rest = c.reserve.ensures.rest; room = c.reserve.ensures.items } in
+    let k : Read g.D.Disk.honest g.D.Disk.moment g.D.Disk.seen g.D.Disk.past g.D.Disk.faults c.reserve.new.self c.told_bytes.new.recorder =
+    record { trace = c.told_bytes.ensures.trace; more = c.told_bytes.ensures.faults; ready = c.told_bytes.ensures.ready; live = c.told_bytes.ensures.live } in
+    let m : Stood g.D.Disk.moment g.D.Disk.faults c.args.self.now c.args.ask.now c.args.planned c.reserve.new.self c.told_bytes.new.recorder c.enter.new.recorder c.apply.new.self =
+    record {
+      kept = c.in-Ok.ensures.alive;
+      later = c.enter.ensures.faults;
+      ended = c.in-Ok-enter.ensures.ended;
+      applied = c.apply.ensures c.args.planned.made.step.now (deed_of c.args.self.now.table c.args.ask.now) c.requires.plan.change;
+    } in
+    went_asked g.D.Disk.honest g.D.Disk.moment g.D.Disk.seen g.D.Disk.past g.D.Disk.faults c.args.self.now c.args.ask.now c.args.planned c.args.row.now c.reserve.new.self b c.told_bytes.new.recorder k c.enter.new.recorder c.apply.new.self m c.in-Ok.bytes c.with_bytes.result c.with_bytes.ensures
+
+pub returns-clause-working : goal.returns-clause-working
+returns-clause-working g c h url opening start given has is dead =
+    let b : Base g.D.Disk.honest g.D.Disk.moment g.D.Disk.seen g.D.Disk.past c.args.self.now c.args.ask.now c.args.planned c.args.row.now c.reserve.new.self =
+    record { alive = c.requires.alive; sound = c.requires.sound; plan = c.requires.plan; readied = c.requires.readied; rest = c.reserve.ensures.rest; room = c.reserve.ensures.items } in
+    let k : Read g.D.Disk.honest g.D.Disk.moment g.D.Disk.seen g.D.Disk.past g.D.Disk.faults c.reserve.new.self c.told_bytes.new.recorder =
+    record { trace = c.told_bytes.ensures.trace; more = c.told_bytes.ensures.faults; ready = c.told_bytes.ensures.ready; live = c.told_bytes.ensures.live } in
+    let m : Stood g.D.Disk.moment g.D.Disk.faults c.args.self.now c.args.ask.now c.args.planned c.reserve.new.self c.told_bytes.new.recorder c.enter.new.recorder c.apply.new.self =
+    record {
+      kept = c.in-Ok.ensures.alive;
+      later = c.enter.ensures.faults;
+      ended = c.in-Ok-enter.ensures.ended;
+      applied = c.apply.ensures c.args.planned.made.step.now (deed_of c.args.self.now.table c.args.ask.now) c.requires.plan.change;
+    } in
+    went_works g.D.Disk.honest g.D.Disk.moment g.D.Disk.seen g.D.Disk.past g.D.Disk.faults c.args.self.now c.args.ask.now c.args.planned c.args.row.now c.reserve.new.self b c.told_bytes.new.recorder k c.enter.new.recorder c.apply.new.self m url opening start given is (c.in-Ok-enter.ensures.live h url opening start given (read_entry g.D.Disk.honest g.D.Disk.moment g.D.Disk.seen g.D.Disk.past g.D.Disk.faults c.args.self.now c.args.ask.now c.args.planned c.args.row.now c.reserve.new.self b c.told_bytes.new.recorder k h url opening start given is has c.bytes_of.result.now c.as_slice.result.now c.bytes_of.ensures c.as_slice.ensures.value) (lives_read g.D.Disk.honest g.D.Disk.moment g.D.Disk.seen g.D.Disk.past g.D.Disk.faults c.args.self.now c.args.ask.now c.args.planned c.args.row.now c.reserve.new.self b c.told_bytes.new.recorder k h url opening start given is))
+
+pub returns-clause-stopped : goal.returns-clause-stopped
+returns-clause-stopped g c h url opening start given has is dead =
+    let b : Base g.D.Disk.honest g.D.Disk.moment g.D.Disk.seen g.D.Disk.past c.args.self.now c.args.ask.now c.args.planned c.args.row.now c.reserve.new.self =
+    record { alive = c.requires.alive; sound = c.requires.sound; plan = c.requires.plan; readied = c.requires.readied; rest = c.reserve.ensures.rest; room = c.reserve.ensures.items } in
+    let k : Read g.D.Disk.honest g.D.Disk.moment g.D.Disk.seen g.D.Disk.past g.D.Disk.faults c.reserve.new.self c.told_bytes.new.recorder =
+    record { trace = c.told_bytes.ensures.trace; more = c.told_bytes.ensures.faults; ready = c.told_bytes.ensures.ready; live = c.told_bytes.ensures.live } in
+    let m : Stood g.D.Disk.moment g.D.Disk.faults c.args.self.now c.args.ask.now c.args.planned c.reserve.new.self c.told_bytes.new.recorder c.enter.new.recorder c.apply.new.self =
+    record {
+      kept = c.in-Ok.ensures.alive;
+      later = c.enter.ensures.faults;
+      ended = c.in-Ok-enter.ensures.ended;
+      applied = c.apply.ensures c.args.planned.made.step.now (deed_of c.args.self.now.table c.args.ask.now) c.requires.plan.change;
+    } in
+    absurd (went_lives_on g.D.Disk.honest g.D.Disk.moment g.D.Disk.seen g.D.Disk.past g.D.Disk.faults c.args.self.now c.args.ask.now c.args.planned c.args.row.now c.reserve.new.self b c.told_bytes.new.recorder k c.enter.new.recorder c.apply.new.self m dead)
+
+pub returns-clause-bytes : goal.returns-clause-bytes
+returns-clause-bytes g c h =
+    let b : Base g.D.Disk.honest g.D.Disk.moment g.D.Disk.seen g.D.Disk.past c.args.self.now c.args.ask.now c.args.planned c.args.row.now c.reserve.new.self =
+    record { alive = c.requires.alive; sound = c.requires.sound; plan = c.requires.plan; readied = c.requires.readied; rest = c.reserve.ensures.rest; room = c.reserve.ensures.items } in
+    let k : Read g.D.Disk.honest g.D.Disk.moment g.D.Disk.seen g.D.Disk.past g.D.Disk.faults c.reserve.new.self c.told_bytes.new.recorder =
+    record { trace = c.told_bytes.ensures.trace; more = c.told_bytes.ensures.faults; ready = c.told_bytes.ensures.ready; live = c.told_bytes.ensures.live } in
+    answer_has (λ (a : Answer). (url : List ℕ) (opening : DeskTable) (start : ℕ) (given : ℕ → List ℕ) → IsWorking g.D.Disk.moment g.D.Disk.seen g.D.Disk.past url opening start given c.args.self.now → HasBytes given a)
+    (effect_of c.args.self.now.table c.args.planned.made.step.now (deed_of c.args.self.now.table c.args.ask.now)).mark (effect_of c.args.self.now.table c.args.planned.made.step.now (deed_of c.args.self.now.table c.args.ask.now)).told c.in-Ok.bytes c.args.planned.made.answer c.with_bytes.result c.with_bytes.ensures c.requires.plan.answer
+    (λ told at url opening start given is. job_bytes given c.in-Ok.bytes told
+    (λ flight same. c.in-Ok.ensures.bytes h flight (ap (λ (s : Step). s.told) c.requires.plan.step ∙ at ∙ ap (λ (x : Told). Some x) same) url opening start given (lives g.D.Disk.honest g.D.Disk.moment g.D.Disk.seen g.D.Disk.past g.D.Disk.faults c.args.self.now c.args.ask.now c.args.planned c.args.row.now c.reserve.new.self b url opening start given is) (read_named g.D.Disk.honest g.D.Disk.moment g.D.Disk.seen g.D.Disk.past g.D.Disk.faults c.args.self.now c.args.ask.now c.args.planned c.args.row.now c.reserve.new.self b c.told_bytes.new.recorder k h url opening start given is flight (ap (λ (s : Step). s.told) c.requires.plan.step ∙ at ∙ ap (λ (x : Told). Some x) same))))
+
+pub returns-clause-sum : goal.returns-clause-sum
+returns-clause-sum g c =
+    answer_has HasSum (effect_of c.args.self.now.table c.args.planned.made.step.now (deed_of c.args.self.now.table c.args.ask.now)).mark (effect_of c.args.self.now.table c.args.planned.made.step.now (deed_of c.args.self.now.table c.args.ask.now)).told c.in-Ok.bytes c.args.planned.made.answer c.with_bytes.result c.with_bytes.ensures c.requires.plan.answer
+    (λ told at. job_sum c.in-Ok.bytes told (λ flight same. c.in-Ok.ensures.sum flight (ap (λ (s : Step). s.told) c.requires.plan.step ∙ at ∙ ap (λ (x : Told). Some x) same)))
+
+pub returns-clause-sound : goal.returns-clause-sound
+returns-clause-sound g c =
+    subst (λ (x : DeskTable). IsSound x) (sym (c.apply.ensures c.args.planned.made.step.now (deed_of c.args.self.now.table c.args.ask.now) c.requires.plan.change)) (after_sound c.args.self.now.table c.requires.sound c.args.planned.made.step.now (deed_of c.args.self.now.table c.args.ask.now) c.requires.plan.is_deed)
+
+pub returns-clause-readied : goal.returns-clause-readied
+returns-clause-readied g c =
+    let b : Base g.D.Disk.honest g.D.Disk.moment g.D.Disk.seen g.D.Disk.past c.args.self.now c.args.ask.now c.args.planned c.args.row.now c.reserve.new.self =
+    record { alive = c.requires.alive; sound = c.requires.sound; plan = c.requires.plan; readied = c.requires.readied; rest = c.reserve.ensures.rest; room = c.reserve.ensures.items } in
+    let k : Read g.D.Disk.honest g.D.Disk.moment g.D.Disk.seen g.D.Disk.past g.D.Disk.faults c.reserve.new.self c.told_bytes.new.recorder =
+    record { trace = c.told_bytes.ensures.trace; more = c.told_bytes.ensures.faults; ready = c.told_bytes.ensures.ready; live = c.told_bytes.ensures.live } in
+    let m : Stood g.D.Disk.moment g.D.Disk.faults c.args.self.now c.args.ask.now c.args.planned c.reserve.new.self c.told_bytes.new.recorder c.enter.new.recorder c.apply.new.self =
+    record {
+      kept = c.in-Ok.ensures.alive;
+      later = c.enter.ensures.faults;
+      ended = c.in-Ok-enter.ensures.ended;
+      applied = c.apply.ensures c.args.planned.made.step.now (deed_of c.args.self.now.table c.args.ask.now) c.requires.plan.change;
+    } in
+    went_readied g.D.Disk.honest g.D.Disk.moment g.D.Disk.seen g.D.Disk.past g.D.Disk.faults c.args.self.now c.args.ask.now c.args.planned c.args.row.now c.reserve.new.self b c.told_bytes.new.recorder k c.enter.new.recorder c.apply.new.self m c.in-Ok-enter.ensures.ready
+
+pub returns-clause-faults : goal.returns-clause-faults
+returns-clause-faults g c =
+    let b : Base g.D.Disk.honest g.D.Disk.moment g.D.Disk.seen g.D.Disk.past c.args.self.now c.args.ask.now c.args.planned c.args.row.now c.reserve.new.self =
+    record { alive = c.requires.alive; sound = c.requires.sound; plan = c.requires.plan; readied = c.requires.readied; rest = c.reserve.ensures.rest; room = c.reserve.ensures.items } in
+    let k : Read g.D.Disk.honest g.D.Disk.moment g.D.Disk.seen g.D.Disk.past g.D.Disk.faults c.reserve.new.self c.told_bytes.new.recorder =
+    record { trace = c.told_bytes.ensures.trace; more = c.told_bytes.ensures.faults; ready = c.told_bytes.ensures.ready; live = c.told_bytes.ensures.live } in
+    entered_faults g.D.Disk.honest g.D.Disk.moment g.D.Disk.seen g.D.Disk.past g.D.Disk.faults c.args.self.now c.args.ask.now c.args.planned c.args.row.now c.reserve.new.self b c.told_bytes.new.recorder k c.enter.new.recorder c.enter.ensures.faults

@@ -1,0 +1,31 @@
+use Rattle.std.proofs.Common.{◌≡◌, ◌≢◌, ℕ, List, [], Option, rules, sym, subst}
+use Rattle.dav_cache.specs.Planned.{IsPlanned}
+use Rattle.dav_deeds.specs.Legal.{new_body, table_after}
+use Rattle.dav_desk.proofs.Entering.{entry_planned, entry_quiet, row_empty, row_full}
+use Rattle.dav_desk.proofs.entry.enter.Goals as goal
+
+pub returns-in-Ok-clause-live : goal.returns-in-Ok-clause-live
+returns-in-Ok-clause-live g c h url opening start given entry is =
+    let t = table_after opening c.args.recorder.now.trace.steps.items in
+    let none : c.args.row.now ≡ [] = row_empty c.args.row.now c.is_empty.result c.is_empty.ensures c.if-is_empty.true in
+    c.in-Ok.ensures.live h url opening start given entry.legal (entry_quiet t c.args.step given c.args.bytes.now c.args.row.now c.args.freed.now entry none) is
+
+pub returns-in-Err-clause-left : goal.returns-in-Err-clause-left
+returns-in-Err-clause-left g c h url opening start given entry is =
+    let t = table_after opening c.args.recorder.now.trace.steps.items in
+    let none : c.args.row.now ≡ [] = row_empty c.args.row.now c.is_empty.result c.is_empty.ensures c.if-is_empty.true in
+    c.in-Err.ensures.left h url opening start given (entry_quiet t c.args.step given c.args.bytes.now c.args.row.now c.args.freed.now entry none) is
+
+pub returns-in-Ok-enter-clause-live : goal.returns-in-Ok-enter-clause-live
+returns-in-Ok-enter-clause-live g c h url opening start given entry is =
+    let t = table_after opening c.args.recorder.now.trace.steps.items in
+    let none : c.args.row.now ≢ [] = row_full c.args.row.now c.is_empty.result c.is_empty.ensures c.if-is_empty.false in
+    c.in-Ok-enter.ensures.live h url opening start given entry.legal
+    (subst (λ (o : Option ℕ). IsPlanned t c.args.step given o c.args.bytes.now c.args.row.now c.args.freed.now) (sym c.fresh_of-fresh.ensures) (entry_planned t c.args.step given c.args.bytes.now c.args.row.now c.args.freed.now entry none)) is
+
+pub returns-in-Err-enter-clause-left : goal.returns-in-Err-enter-clause-left
+returns-in-Err-enter-clause-left g c h url opening start given entry is =
+    let t = table_after opening c.args.recorder.now.trace.steps.items in
+    let none : c.args.row.now ≢ [] = row_full c.args.row.now c.is_empty.result c.is_empty.ensures c.if-is_empty.false in
+    c.in-Err-enter.ensures.left h url opening start given entry.legal
+    (subst (λ (o : Option ℕ). IsPlanned t c.args.step given o c.args.bytes.now c.args.row.now c.args.freed.now) (sym c.fresh_of-fresh.ensures) (entry_planned t c.args.step given c.args.bytes.now c.args.row.now c.args.freed.now entry none)) is

@@ -1,0 +1,60 @@
+-- A desk between two calls, over a disk that keeps the model.
+use Rattle.std.specs.Prelude.{◌≡◌, ℕ, List, length, None}
+use Rattle.sha2.specs.Sha256.{sha256}
+use Rattle.dav_disk.specs.Disk.{Doubt}
+use Rattle.dav_store.specs.Rows.{IsReady}
+use Rattle.dav_store.specs.View.{journal_end}
+use Rattle.dav_deeds.specs.DeskTable.{DeskTable}
+use Rattle.dav_deeds.specs.Legal.{table_after}
+use Rattle.dav_deeds.specs.Refusals.{store_refusal}
+use Rattle.dav_deeds.specs.declared.answer.Answer.{Answer}
+use Rattle.dav_deeds.specs.declared.answer.Answer.TheVariants as answers
+use Rattle.dav_deeds.specs.declared.ask.Ask.{Ask}
+use Rattle.dav_deeds.specs.declared.ask.Ask.TheVariants.{Store, Forget, Take, Settle, Stop}
+use Rattle.dav_cache.specs.Survives.{IsLive, IsLeft}
+use Rattle.dav_desk.specs.declared.desk.Desk.{Desk}
+use Rattle.dav_desk.specs.Ends.{IsEndIfAny}
+
+-- the desk can be asked: unless it is dead, a record can be added to its index
+pub record IsReadied {D : Type 0} (honest : Type 0) (moment : D → ℕ) (seen : D → ℕ → List ℕ) (past : D → ℕ → ℕ → Doubt) (desk : Desk D) : Type 0 where
+  pub index : honest → desk.recorder.dead ≡ None
+      → IsReady (journal_end desk.recorder.journal) (seen desk.recorder.disk 0) (past desk.recorder.disk (moment desk.recorder.disk) 0)
+  pub end : IsEndIfAny desk.recorder.dead
+
+-- A desk that began with this table at that moment and works: its table is the one after its steps, and is on the disk. Since it
+-- began a stop left, at each moment, the table after a front of its steps.
+pub record IsWorking {D : Type 0} (moment : D → ℕ) (seen : D → ℕ → List ℕ) (past : D → ℕ → ℕ → Doubt) (url : List ℕ) (opening : DeskTable) (start : ℕ) (given : ℕ → List ℕ) (desk : Desk D) : Type 0 where
+  pub alive : desk.recorder.dead ≡ None
+  pub table : desk.table ≡ table_after opening desk.recorder.trace.steps.items
+  pub live : IsLive moment seen past url opening start given desk.recorder
+
+-- A desk that was stopped: since it began a stop left, at each moment, the table after a front of its steps, or after them all and
+-- the one under way.
+abbrev pub IsStopped : {D : Type 0} → (D → ℕ) → (D → ℕ → ℕ → Doubt) → List ℕ → DeskTable → ℕ → (ℕ → List ℕ) → Desk D → Type 0
+IsStopped moment past url opening start given desk = IsLeft moment past url opening start given desk.recorder
+
+-- the bytes of a store that isn't refused are given for its new file
+abbrev pub AreGiven : DeskTable → (ℕ → List ℕ) → Ask → Type 0
+AreGiven t given (Store path bytes) = store_refusal t.index path (length bytes) ≡ None → given t.index.next_file ≡ bytes
+AreGiven t given (Forget path locks below) = Unit {0}
+AreGiven t given Take = Unit {0}
+AreGiven t given (Settle job done) = Unit {0}
+AreGiven t given Stop = Unit {0}
+
+-- the bytes of a job that is told are those given for its file
+abbrev pub HasBytes : (ℕ → List ℕ) → Answer → Type 0
+HasBytes given (answers.Closed body) = Unit {0}
+HasBytes given answers.Forgot = Unit {0}
+HasBytes given (answers.Took job) = job.bytes ≡ given job.body.file
+HasBytes given answers.Idle = Unit {0}
+HasBytes given (answers.Settled fated) = Unit {0}
+HasBytes given answers.Stopping = Unit {0}
+
+-- and they have the SHA-256 of its body
+abbrev pub HasSum : Answer → Type 0
+HasSum (answers.Closed body) = Unit {0}
+HasSum answers.Forgot = Unit {0}
+HasSum (answers.Took job) = sha256 job.bytes ≡ job.body.sum
+HasSum answers.Idle = Unit {0}
+HasSum (answers.Settled fated) = Unit {0}
+HasSum answers.Stopping = Unit {0}

@@ -1,0 +1,117 @@
+ghost use Rattle.std.specs.Prelude.{◌≡◌, ◌≢◌, ◌⊎◌, ℕ, ◌<◌, ◌≤◌, List, [], ◌∷◌, ◌++◌, length, All, Contains, IfOk, IfErr, OnOk, OnErr, Option, None, Some, vec_capacity};
+ghost use Rattle.sha2.specs.Sha256.{sha256};
+ghost use Rattle.dav_machine.specs.Log.{Rose};
+ghost use Rattle.dav_store.specs.Rows.{IsPayload, IsReady};
+ghost use Rattle.dav_store.specs.View.{journal_end};
+ghost use Rattle.dav_store.specs.declared.body_id.BodyId.{BodyId};
+ghost use Rattle.dav_index.specs.Bounds.{bodies_of};
+ghost use Rattle.dav_deeds.specs.DeskTable.{DeskTable};
+ghost use Rattle.dav_deeds.specs.Legal.{new_body, table_after};
+ghost use Rattle.dav_deeds.specs.declared.answer.Flight.{Flight};
+ghost use Rattle.dav_deeds.specs.declared.answer.Told.TheVariants.{Took};
+ghost use Rattle.dav_deeds.specs.declared.fault.DeskFault.TheVariants.{Disk as DiskFault, Memory as MemoryFault};
+ghost use Rattle.dav_cache.specs.Planned.{kept_table};
+ghost use Rattle.dav_cache.specs.Survives.{IsLive, IsLeft};
+ghost use Rattle.dav_desk.specs.Entry.{bytes_in, file_in, IsEntry, IsMissing};
+
+use dav_cache::Recorder;
+use dav_deeds::{Ask, Deed, DeskFault, Step, Told};
+use dav_disk::Disk;
+use dav_text::Blob;
+use std::alloc::Global;
+
+/// The bytes that are to be stored, if any are.
+pub(crate) fn bytes_of(ask: &Ask) -> &[u8]
+    ensures { result.now ≡ bytes_in ask.now }
+{
+    match ask {
+        Ask::Store { bytes, .. } => bytes.as_slice(),
+        _ => b"",
+    }
+}
+
+/// The file of the new body, if there is one.
+fn fresh_of(deed: &Deed) -> Option<u32>
+    ensures { result ≡ file_in (new_body deed.now) }
+{
+    match deed {
+        Deed::Store {
+            body: Some(body),
+            ..
+        } => Some(body.file),
+        _ => None,
+    }
+}
+
+/// The bytes of the job that is told, and none where no job is. Answers `Memory` only before the first device call; after
+/// `Disk` and `Damaged` the desk is dead. At any answer a stop leaves what it left before.
+pub(crate) fn told_bytes<D: Disk>(
+    alloc: Global,
+    recorder: &mut Recorder<D>,
+    told: &Option<Told>,
+) -> Result<Blob, DeskFault>
+    ensures bytes { D.honest → IfOk result (λ blob. (flight : Flight) → told.now ≡ Some (Took flight) → (url : List ℕ) (opening : DeskTable) (start : ℕ) (given : ℕ → List ℕ)
+        → IsLive D.moment D.seen D.past url opening start given recorder.old → Contains (bodies_of (kept_table (table_after opening recorder.old.trace.steps.items))) flight.body → blob ≡ given flight.body.file) }
+    ensures live { D.honest → (url : List ℕ) (opening : DeskTable) (start : ℕ) (given : ℕ → List ℕ) → IsLive D.moment D.seen D.past url opening start given recorder.old
+        → IsLive D.moment D.seen D.past url opening start given recorder.new }
+    ensures sum { IfOk result (λ blob. (flight : Flight) → told.now ≡ Some (Took flight) → sha256 blob ≡ flight.body.sum) }
+    ensures fault { IfErr result (λ e. IsMissing D.honest (D.seen recorder.old.disk) (D.seen recorder.new.disk) (D.faults recorder.old.disk) (D.faults recorder.new.disk) told.now e) }
+    ensures starved { IfErr result (λ e. e ≡ MemoryFault → (recorder.new.disk ≡ recorder.old.disk) × (recorder.new.dead ≡ recorder.old.dead)) }
+    ensures stopped { IfErr result (λ e. e ≢ MemoryFault → recorder.new.dead ≡ Some e) }
+    ensures alive { OnOk result (recorder.new.dead ≡ recorder.old.dead) }
+    ensures trace { (recorder.new.trace ≡ recorder.old.trace) × (recorder.new.under ≡ recorder.old.under) }
+    ensures ready { D.honest → IsReady (journal_end recorder.old.journal) (D.seen recorder.old.disk 0) (D.past recorder.old.disk (D.moment recorder.old.disk) 0)
+        → IsReady (journal_end recorder.new.journal) (D.seen recorder.new.disk 0) (D.past recorder.new.disk (D.moment recorder.new.disk) 0) }
+    ensures faults { D.faults recorder.old.disk ≤ D.faults recorder.new.disk }
+{
+    let Some(told) = told else {
+        return Ok(Blob::from_vec(Vec::new(alloc)));
+    };
+    let Told::Took(flight) = told else {
+        return Ok(Blob::from_vec(Vec::new(alloc)));
+    };
+    match recorder.fetch(&flight.body) {
+        Ok(bytes) => Ok(bytes),
+        Err(fault) => Err(fault),
+    }
+}
+
+/// Puts a step on the disk, with the bytes of its new body, if there is one, and its row, unless that is empty. Then it stands in
+/// the trace.
+pub(crate) fn enter<D: Disk>(
+    recorder: &mut Recorder<D>,
+    step: Step,
+    bytes: &[u8],
+    row: &[u8],
+    freed: &[u32],
+) -> Result<(), DeskFault>
+    requires fits { row.now ≢ [] → IsPayload row.now }
+    requires fresh_apart { (id : BodyId) → new_body step.deed ≡ Some id → 2 ≤ id.file }
+    requires freed_apart { All (λ f. 2 ≤ f) freed.now }
+    requires room { length recorder.old.trace.steps.items < vec_capacity recorder.old.trace.steps }
+    requires ready { D.honest → IsReady (journal_end recorder.old.journal) (D.seen recorder.old.disk 0) (D.past recorder.old.disk (D.moment recorder.old.disk) 0) }
+
+    ensures live { D.honest → OnOk result ((url : List ℕ) (opening : DeskTable) (start : ℕ) (given : ℕ → List ℕ) → IsEntry (table_after opening recorder.old.trace.steps.items) step given bytes.now row.now freed.now
+        → IsLive D.moment D.seen D.past url opening start given recorder.old → IsLive D.moment D.seen D.past url opening start given recorder.new) }
+    ensures left { D.honest → OnErr result ((url : List ℕ) (opening : DeskTable) (start : ℕ) (given : ℕ → List ℕ) → IsEntry (table_after opening recorder.old.trace.steps.items) step given bytes.now row.now freed.now
+        → IsLive D.moment D.seen D.past url opening start given recorder.old → IsLeft D.moment D.past url opening start given recorder.new) }
+    ensures ended { OnOk result ((recorder.new.trace.steps.items ≡ recorder.old.trace.steps.items ++ record step { moment = D.moment recorder.new.disk } ∷ [])
+        × (recorder.new.under ≡ recorder.old.under) × (recorder.new.dead ≡ recorder.old.dead)) }
+    ensures stopped { IfErr result (λ e. (e ≡ DiskFault) × (recorder.new.dead ≡ Some DiskFault) × Rose (D.faults recorder.old.disk) (D.faults recorder.new.disk)
+        × (recorder.new.trace.steps.items ≡ recorder.old.trace.steps.items)
+        × ((recorder.new.under ≡ recorder.old.under) ⊎ (recorder.new.under ≡ Some (record step { moment = D.moment recorder.new.disk })))) }
+    ensures ready { D.honest → OnOk result (IsReady (journal_end recorder.new.journal) (D.seen recorder.new.disk 0) (D.past recorder.new.disk (D.moment recorder.new.disk) 0)) }
+    ensures faults { D.faults recorder.old.disk ≤ D.faults recorder.new.disk }
+{
+    if row.is_empty() {
+        return match recorder.enter_quiet(step, freed) {
+            Ok(()) => Ok(()),
+            Err(fault) => Err(fault),
+        };
+    }
+    let fresh = fresh_of(&step.deed);
+    match recorder.enter(step, fresh, bytes, row, freed) {
+        Ok(()) => Ok(()),
+        Err(fault) => Err(fault),
+    }
+}
