@@ -71,6 +71,7 @@ fn next_record<D: Disk>(
     row: u64,
 ) -> Result<Next, StoreFault>
     requires row { row ≡ table.old.records + 1 }
+    requires in_bounds { IsWithin table.old }
 
     ensures more { D.honest → IfOk result (λ n. n ≡ Row → (url : List ℕ) (records : List Record) → IsRead url records table.old (journal_end journal.old) (D.seen disk.old 0) (D.past disk.old (D.moment disk.old) 0)
         → (r : Record) × IsRead url (records ++ r ∷ []) table.new (journal_end journal.new) (D.seen disk.new 0) (D.past disk.new (D.moment disk.new) 0)) }
@@ -79,7 +80,7 @@ fn next_record<D: Disk>(
     ensures refused { D.honest → IfErr result (λ e. (at : ℕ) → e ≡ NotACache at → (url : List ℕ) (records : List Record)
         → IsRead url records table.old (journal_end journal.old) (D.seen disk.old 0) (D.past disk.old (D.moment disk.old) 0) → IsBadRow url at (D.seen disk.old 0)) }
     ensures counted { IfOk result (λ n. n ≡ Row → table.new.records ≡ row) }
-    ensures within { IsWithin table.old → OnOk result (IsWithin table.new) }
+    ensures within { OnOk result (IsWithin table.new) }
     ensures touches { D.honest → Touches (λ _. ⊥) (D.moment disk.old) (D.moment disk.new) (D.past disk.old) (D.past disk.new) }
     ensures seen { D.honest → AllStay (D.seen disk.old) (D.seen disk.new) }
     ensures cause { IsCaused (D.faults disk.old) (D.faults disk.new) result }
@@ -104,6 +105,7 @@ fn replay_row(
     payload: &[u8],
 ) -> Result<(), StoreFault>
     requires row { row ≡ table.old.records + 1 }
+    requires in_bounds { IsWithin table.old }
 
     ensures record { OnOk result ((r : Record) × IsRecord r × (payload.now ≡ text_of r) × (table.new ≡ replay table.old r) × IsWithin table.new) }
     ensures refused { IfErr result (λ e. (place : ℕ) → e ≡ NotACache place → (place ≡ at) × IsNoRecord table.old payload.now) }
@@ -115,8 +117,8 @@ fn replay_row(
         Err(RecordFault::Memory) => return Err(StoreFault::Memory),
         Err(_) => return Err(StoreFault::NotACache { at }),
     };
-    table.replay(row, &record)?;
-    if !table.is_within() {
+    let is_within = table.replay_within(row, &record)?;
+    if !is_within {
         return Err(StoreFault::NotACache { at });
     }
     Ok(())

@@ -10,7 +10,7 @@ use Rattle.dav_index.specs.Bounds.{bodies_of}
 use Rattle.dav_index.specs.declared.entry.Entry.{Entry}
 use Rattle.dav_index.specs.declared.lost.LostItem.{LostItem}
 use Rattle.dav_index.specs.declared.table.Table.{Table}
-use Rattle.dav_deeds.proofs.Weights.{weight, EachEntry}
+use Rattle.dav_index.proofs.Weights.{weight, EachEntry}
 
 -- what a body weighs, where there is one
 abbrev pub of_body : (BodyId → ℕ) → Option BodyId → ℕ

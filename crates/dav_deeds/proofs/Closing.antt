@@ -16,7 +16,7 @@ use Rattle.dav_index.specs.declared.entry.Waiting.{Waiting}
 use Rattle.dav_index.specs.declared.lost.LostItem.{LostItem}
 use Rattle.dav_index.specs.declared.record.Record.TheVariants.{Closed}
 use Rattle.dav_index.specs.declared.table.Table.{Table}
-use Rattle.dav_deeds.proofs.Weights.{weight, length_weight}
+use Rattle.dav_index.proofs.Weights.{weight, length_weight}
 use Rattle.dav_deeds.proofs.Bodies.{of_entry, in_file, bodies_weight, OfBody, EachBody, each_body, bodies_each, every_weaker, none_beyond}
 use Rattle.dav_deeds.proofs.Within.{IsKnown, KeepsBody, queued_one, bytes_in, old_weight, Puts, puts_by, one_if}
 

@@ -22,8 +22,8 @@ use Rattle.dav_deeds.specs.Refusals.{queued_with}
 use Rattle.dav_deeds.specs.Sound.{IsOwn, IsFlightWithin}
 use Rattle.dav_deeds.proofs.Paths.{by_test, same_self, same_back}
 use Rattle.dav_deeds.proofs.Queued.{waited_queued, closed_here, closed_other, forgot_queued}
-use Rattle.dav_deeds.proofs.Restart.{head_found, head_changed, head_new, none_changed, none_new}
-use Rattle.dav_deeds.proofs.Weights.{weight, without_each}
+use Rattle.dav_index.proofs.HeadLemmas.{head_found, head_changed, head_new, none_changed, none_new}
+use Rattle.dav_index.proofs.Weights.{weight, without_each}
 use Rattle.dav_deeds.proofs.Bodies.{of_entry, of_body, in_file, bodies_weight, OfBody, EachBody, each_body, every_weaker}
 
 pub every_at : {X : Type 0} (P : X → Type 0) (xs : List X) (x : X) → Every P xs → Contains xs x → P x

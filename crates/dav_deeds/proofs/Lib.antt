@@ -5,7 +5,6 @@ pub mod Fits
 pub mod Taking
 pub mod Stories
 pub mod Restart
-pub mod Weights
 pub mod Bodies
 pub mod Ordered
 pub mod Within

@@ -12,7 +12,7 @@ use Rattle.dav_index.specs.Items.{Every, key_of, has_path, same_path, comes_befo
 use Rattle.dav_index.specs.Records.{IsBare}
 use Rattle.dav_index.specs.declared.entry.Entry.{Entry}
 use Rattle.dav_deeds.proofs.Paths.{by_test, not_back}
-use Rattle.dav_deeds.proofs.Restart.{head_found, head_new, none_new}
+use Rattle.dav_index.proofs.HeadLemmas.{head_found, head_new, none_new}
 use Rattle.dav_deeds.proofs.Bodies.{every_weaker}
 
 is_less : (o : Ordering) → is_lt o ≡ true → o ≡ Less

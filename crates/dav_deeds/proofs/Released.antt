@@ -31,7 +31,7 @@ use Rattle.dav_deeds.specs.Legal.{IsBodyUnless, IsDeed}
 use Rattle.dav_deeds.specs.Sound.{IsOwn, IsFlightWithin, IsJobWithin, IsSound}
 use Rattle.dav_deeds.proofs.Paths.{by_test, same_self}
 use Rattle.dav_deeds.proofs.Entries.{entry_same}
-use Rattle.dav_deeds.proofs.Weights.{weight, each_found, changed_less, without_weight}
+use Rattle.dav_index.proofs.Weights.{weight, each_found, changed_less, without_weight}
 use Rattle.dav_deeds.proofs.Bodies.{of_body, of_entry, in_file, bodies_weight, OfBody, EachBody, each_body}
 use Rattle.dav_deeds.proofs.Within.{Puts, puts_by, old_weight, one_if}
 use Rattle.dav_deeds.proofs.Flying.{every_at, at_found}

@@ -13,6 +13,7 @@ use Rattle.dav_index.specs.declared.lost.LostItem.{LostItem}
 use Rattle.dav_index.specs.declared.record.Record.{Record}
 use Rattle.dav_index.specs.declared.record.Record.TheVariants.{Forgot, Closed, Sent, Lost, Dropped}
 use Rattle.dav_index.specs.declared.table.Table.{Table}
+use Rattle.dav_index.proofs.HeadLemmas.{head_found, head_changed, head_new, head_without, none_found, none_changed, none_new, none_without}
 use Rattle.dav_deeds.specs.DeskTable.{DeskTable, reopened, started}
 use Rattle.dav_deeds.specs.declared.deed.Deed.{Deed}
 use Rattle.dav_deeds.specs.Effects.{Wait, Effect, waited, recorded, changed, effect_of, after, record_of}
@@ -22,39 +23,6 @@ restarted_entry e = record { seen = e.seen; body = e.body; queued = restarted_wa
 
 abbrev again : List Item → List Item
 again items = map restarted_item items
-
-pub head_found : (q : PathParts) (x : Item) (xs : List Item) (b : Bool) → has_path q x ≡ b → entry_at q (x ∷ xs) ≡ (if b then Some x.entry else entry_at q xs)
-unfolding entry_at
-head_found q x xs b is = rw is
-
-pub head_changed : (q : PathParts) (f : Entry → Entry) (x : Item) (xs : List Item) (b : Bool) → has_path q x ≡ b → with_changed q f (x ∷ xs) ≡ (if b then record { path = x.path; entry = f x.entry } ∷ xs else x ∷ with_changed q f xs)
-unfolding with_changed
-head_changed q f x xs b is = rw is
-
-pub head_new : (q : PathParts) (e : Entry) (x : Item) (xs : List Item) (b : Bool) → comes_before q x.path ≡ b → with_new q e (x ∷ xs) ≡ (if b then record { path = q; entry = e } ∷ x ∷ xs else x ∷ with_new q e xs)
-unfolding with_new
-head_new q e x xs b is = rw is
-
-pub head_without : (q : PathParts) (below : Bool) (x : Item) (xs : List Item) (b : Bool) → goes_with q below x ≡ b → without_entry q below (x ∷ xs) ≡ (if b then without_entry q below xs else x ∷ without_entry q below xs)
-unfolding without_entry
-head_without q below x xs true is = rw is
-head_without q below x xs false is = rw is
-
-pub none_found : (q : PathParts) → entry_at q [] ≡ None
-unfolding entry_at
-none_found q = refl
-
-pub none_changed : (q : PathParts) (f : Entry → Entry) → with_changed q f [] ≡ []
-unfolding with_changed
-none_changed q f = refl
-
-pub none_new : (q : PathParts) (e : Entry) → with_new q e [] ≡ record { path = q; entry = e } ∷ []
-unfolding with_new
-none_new q e = refl
-
-pub none_without : (q : PathParts) (below : Bool) → without_entry q below [] ≡ []
-unfolding without_entry
-none_without q below = refl
 
 found_again : (q : PathParts) (items : List Item) → entry_at q (again items) ≡ option_map restarted_entry (entry_at q items)
 found_again q [] = none_found q ∙ sym (ap (option_map restarted_entry) (none_found q))

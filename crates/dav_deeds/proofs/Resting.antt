@@ -12,7 +12,7 @@ use Rattle.dav_index.specs.declared.entry.Entry.{Entry}
 use Rattle.dav_index.specs.declared.entry.Waiting.{Waiting}
 use Rattle.dav_index.specs.declared.lost.LostItem.{LostItem}
 use Rattle.dav_index.specs.declared.table.Table.{Table}
-use Rattle.dav_deeds.proofs.Weights.{weight}
+use Rattle.dav_index.proofs.Weights.{weight}
 use Rattle.dav_deeds.proofs.Bodies.{of_entry, OfBody}
 use Rattle.dav_deeds.proofs.Within.{IsKnown, KeepsBody, queued_one, bytes_in, IsLess, less_within}
 

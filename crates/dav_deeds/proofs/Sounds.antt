@@ -35,7 +35,7 @@ use Rattle.dav_deeds.specs.Sound.{IsFlightWithin, IsJobWithin, IsSound}
 use Rattle.dav_deeds.proofs.Paths.{same_self}
 use Rattle.dav_deeds.proofs.Entries.{entry_same}
 use Rattle.dav_deeds.proofs.Taking.{taken_of}
-use Rattle.dav_deeds.proofs.Weights.{weight}
+use Rattle.dav_index.proofs.Weights.{weight}
 use Rattle.dav_deeds.proofs.Within.{queued_one, one_if, waited_within, sent_within, forgot_within, lost_within}
 use Rattle.dav_deeds.proofs.Closing.{MayClose, close_within}
 use Rattle.dav_deeds.proofs.Flying.{taken_within, waited_flight, closed_flight, forgot_flight}

@@ -18,9 +18,9 @@ use Rattle.dav_index.specs.declared.lost.LostItem.{LostItem}
 use Rattle.dav_index.specs.declared.record.Record.TheVariants.{Forgot, Sent, Lost}
 use Rattle.dav_index.specs.declared.table.Table.{Table}
 use Rattle.dav_deeds.specs.Effects.{Wait, waited}
-use Rattle.dav_deeds.proofs.Restart.{head_changed, head_without, none_changed, none_without}
+use Rattle.dav_index.proofs.HeadLemmas.{head_changed, head_without, none_changed, none_without}
 use Rattle.dav_deeds.proofs.Ordered.{new_is_map}
-use Rattle.dav_deeds.proofs.Weights.{weight, EachEntry, each_found, changed_weight, changed_less, new_weight, without_weight, going_weight, changed_each, new_each, without_each, changed_paths, length_weight}
+use Rattle.dav_index.proofs.Weights.{weight, EachEntry, each_found, changed_weight, changed_less, new_weight, without_weight, going_weight, changed_each, new_each, without_each, changed_paths, length_weight}
 use Rattle.dav_deeds.proofs.Bodies.{of_body, of_entry, in_file, bodies_weight, OfBody, EachBody, each_body, bodies_each, every_append, every_weaker}
 
 -- what the bounds ask of an entry

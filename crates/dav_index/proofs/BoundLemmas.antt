@@ -1,8 +1,8 @@
 -- The tests of a table's bounds, and the bounds.
-use Rattle.std.proofs.Common.{◌≡◌, ◌≢◌, ◌⊎◌, ℕ, ◌+◌, ◌<◌, ◌≤◌, Bool, true, false, cond, List, [], ◌∷◌, ◌++◌, Option, Some, None, refl, sym, ap, subst, ◌∙◌, inl, inr, arith}
+use Rattle.std.proofs.Common.{◌≡◌, ◌≢◌, ℕ, ◌+◌, ◌<◌, ◌≤◌, Bool, true, cond, List, [], ◌∷◌, ◌++◌, Option, Some, None, refl, sym, ap, subst, ◌∙◌, arith}
 use Rattle.std.specs.Prelude.{map, count_by, nat_eq, nat_le, nat_lt, not, ◌&&◌, ◌||◌, is_some}
 use Rattle.std.specs.List.{list_all, filter_map, cons_option}
-use Rattle.std.proofs.lemmas.Bool.{false≢true, eqb-true, leb-true, le-leb}
+use Rattle.std.proofs.lemmas.Bool.{false≢true, leb-true, le-leb}
 use Rattle.std.proofs.lemmas.Bool.Decides.{Decides-ltb}
 use Rattle.std.proofs.lemmas.List.Sums.{sum_by-cons, sum_by-append}
 use Rattle.dav_text.specs.declared.tag.Seen.{Seen}
@@ -11,9 +11,9 @@ use Rattle.dav_store.specs.declared.body_id.BodyId.{BodyId}
 use Rattle.dav_index.specs.Item.{Item}
 use Rattle.dav_index.specs.Items.{Every, IsMap}
 use Rattle.dav_index.specs.Records.{IsBare}
-use Rattle.dav_index.specs.Tables.{has_file}
+use Rattle.dav_index.specs.Tables.{fresh_table, has_file}
 use Rattle.dav_index.specs.Bounds.{IsWithin, HasBody, bodies_of}
-use Rattle.dav_index.specs.Tests.{HasRoom, is_known, is_body_within, is_kept_within, waits_well, is_entry_within, is_lost_within, file_count, is_alone, number_count}
+use Rattle.dav_index.specs.Tests.{HasRoom, is_known, is_body_within, is_kept_within, waits_well, is_entry_within, is_lost_within, file_count, number_count}
 use Rattle.dav_index.specs.declared.entry.Waiting.{Waiting}
 use Rattle.dav_index.specs.declared.lost.LostItem.{LostItem}
 use Rattle.dav_index.specs.declared.table.Table.{Table}
@@ -95,25 +95,6 @@ bodies_lost P t h = lost_to P t.lost (every_back P (filter_map (λ (item : Item)
 
 count_cons : {X : Type 0} (p : X → Bool) (x : X) (xs : List X) → count_by p (x ∷ xs) ≡ cond (p x) 1 0 + count_by p xs
 count_cons p x xs = sum_by-cons (λ y. cond (p y) 1 0) x xs
-
--- where each key is there once at most, so is each number
-one_each : {X : Type 0} (key : X → ℕ) (n : ℕ) (all xs : List X) → Every (λ x. count_by (λ y. nat_eq (key y) (key x)) all ≤ 1) xs
-    → (count_by (λ y. nat_eq (key y) n) xs ≡ 0) ⊎ (count_by (λ y. nat_eq (key y) n) all ≤ 1)
-one_each key n all [] h = inl refl
-one_each key n all (x ∷ xs) h = by (nat_eq (key x) n) refl (one_each key n all xs h.1)
-  where
-    by : (b : Bool) → nat_eq (key x) n ≡ b → (count_by (λ y. nat_eq (key y) n) xs ≡ 0) ⊎ (count_by (λ y. nat_eq (key y) n) all ≤ 1)
-        → (count_by (λ y. nat_eq (key y) n) (x ∷ xs) ≡ 0) ⊎ (count_by (λ y. nat_eq (key y) n) all ≤ 1)
-    by true e rest = inr (let P : ℕ → Type 0 = λ m. count_by (λ y. nat_eq (key y) m) all ≤ 1 in subst P (eqb-true (key x) n e) h.0)
-    by false e (inl none) = inl (let step = count_cons (λ y. nat_eq (key y) n) x xs ∙ ap (λ b. cond b 1 0 + count_by (λ y. nat_eq (key y) n) xs) e in omega (arith, step, none))
-    by false e (inr some) = inr some
-
-pub once : {X : Type 0} (key : X → ℕ) (xs : List X) → Every (λ x. count_by (λ y. nat_eq (key y) (key x)) xs ≤ 1) xs → (n : ℕ) → count_by (λ y. nat_eq (key y) n) xs ≤ 1
-once key xs h n = elim (one_each key n xs xs h) [ inl none ↦ omega arith | inr some ↦ some ]
-
-pub everywhere : {X : Type 0} (P : X → Type 0) (xs : List X) → ((x : X) → P x) → Every P xs
-everywhere P [] h = tt
-everywhere P (x ∷ xs) h = (h x, everywhere P xs h)
 
 count_kept : (file : ℕ) (items : List Item) → count_by (λ (body : BodyId). nat_eq body.file file) (filter_map (λ (item : Item). item.entry.body) items) ≡ count_by (λ (item : Item). has_file file item.entry.body) items
 count_kept file [] = refl
@@ -223,30 +204,16 @@ entry_to next item h =
     and_both (is_known item.entry.seen) (waits_well item.entry && is_kept_within next item.entry.body) (known_to item.entry.seen h.known)
     (and_both (waits_well item.entry) (is_kept_within next item.entry.body) (waits_to item.entry.queued item.entry.body h.waits) (kept_body_to next item.entry.body h.body))
 
--- ---- files and numbers
-
-abbrev pub Alone : Table → BodyId → Type 0
-Alone t body = count_by (λ (b : BodyId). nat_eq b.file body.file) (bodies_of t) ≤ 1
-
-alone_from : (t : Table) (o : Option BodyId) → is_alone t o ≡ true → IfBody (Alone t) o
-alone_from t None h = tt
-alone_from t (Some body) h = let P : ℕ → Type 0 = λ n. n ≤ 1 in subst P (sym (file_count_is t body.file)) (le_from (file_count t body.file) 1 h)
-
-alone_to : (t : Table) (o : Option BodyId) → IfBody (Alone t) o → is_alone t o ≡ true
-alone_to t None h = refl
-alone_to t (Some body) h = le_to (file_count t body.file) 1 (let P : ℕ → Type 0 = λ n. n ≤ 1 in subst P (file_count_is t body.file) h)
-
--- the tests as they are made
-pub record Tests (t : Table) : Type 0 where
+-- the limits that a table keeps to
+pub record Limits (t : Table) : Type 0 where
   pub room : HasRoom t
   pub entries : list_all (λ (item : Item). is_entry_within t.next_file item.entry) t.entries ≡ true
   pub lost : list_all (is_lost_within t.next_file t.next_lost) t.lost ≡ true
-  pub entries_alone : list_all (λ (item : Item). is_alone t item.entry.body) t.entries ≡ true
-  pub lost_alone : list_all (λ (item : LostItem). is_alone t (Some item.body)) t.lost ≡ true
-  pub numbers : list_all (λ (item : LostItem). nat_le (number_count t item.number) 1) t.lost ≡ true
+  pub files : (file : ℕ) → file_count t file ≤ 1
+  pub numbers : (number : ℕ) → number_count t number ≤ 1
 
-pub within_from : (t : Table) → IsMap t.entries → Every (λ (item : LostItem). IsBare item.path) t.lost → Tests t → IsWithin t
-within_from t in_order paths h =
+pub within_so : (t : Table) → IsMap t.entries → Every (λ (item : LostItem). IsBare item.path) t.lost → Limits t → IsWithin t
+within_so t in_order paths h =
     let next = t.next_file in
     let entries : Every (EntryFits next) t.entries =
     every_so (λ (item : Item). is_entry_within next item.entry ≡ true) (EntryFits next) t.entries (entry_from next) (all_from (λ (item : Item). is_entry_within next item.entry) t.entries h.entries) in
@@ -256,10 +223,6 @@ within_from t in_order paths h =
     (every_so (EntryFits next) (λ (item : Item). IfBody (BodyFits next) item.entry.body) t.entries (λ item fits. fits.body) entries)
     (every_so (λ (item : LostItem). is_lost_within next t.next_lost item ≡ true) (λ (item : LostItem). BodyFits next item.body) t.lost
     (λ item e. body_from next item.body (and_first (is_body_within next item.body) (nat_lt item.number t.next_lost) e)) lost) in
-    let alone : Every (Alone t) (bodies_of t) =
-    bodies_from (Alone t) t
-    (every_so (λ (item : Item). is_alone t item.entry.body ≡ true) (λ (item : Item). IfBody (Alone t) item.entry.body) t.entries (λ item e. alone_from t item.entry.body e) (all_from _ t.entries h.entries_alone))
-    (every_so (λ (item : LostItem). is_alone t (Some item.body) ≡ true) (λ (item : LostItem). Alone t item.body) t.lost (λ item e. alone_from t (Some item.body) e) (all_from _ t.lost h.lost_alone)) in
     record {
       in_order = in_order;
       known = every_so (EntryFits next) (λ (item : Item). item.entry.seen ≢ Unknown) t.entries (λ item fits. fits.known) entries;
@@ -269,26 +232,24 @@ within_from t in_order paths h =
       few_kept = h.room.few_kept;
       few_bytes = h.room.few_bytes;
       short_bodies = every_so (BodyFits next) (λ (body : BodyId). body.len ≤ 8388608) (bodies_of t) (λ body fits. fits.short) bodies;
-      files_differ = once (λ (body : BodyId). body.file) (bodies_of t) alone;
+      files_differ = λ file. let P : ℕ → Type 0 = λ n. n ≤ 1 in subst P (sym (file_count_is t file)) (h.files file);
       files_begin = every_so (BodyFits next) (λ (body : BodyId). 2 ≤ body.file) (bodies_of t) (λ body fits. fits.begins) bodies;
       files_known = every_so (BodyFits next) (λ (body : BodyId). body.file < next) (bodies_of t) (λ body fits. fits.known) bodies;
       files_left = h.room.files_left;
-      numbers_differ = once (λ (item : LostItem). item.number) t.lost
-          (every_so (λ (item : LostItem). nat_le (number_count t item.number) 1 ≡ true) (λ (item : LostItem). number_count t item.number ≤ 1) t.lost (λ item e. le_from (number_count t item.number) 1 e) (all_from _ t.lost h.numbers));
+      numbers_differ = h.numbers;
       numbers_known = every_so (λ (item : LostItem). is_lost_within next t.next_lost item ≡ true) (λ (item : LostItem). item.number < t.next_lost) t.lost
           (λ item e. lt_from item.number t.next_lost (and_second (is_body_within next item.body) (nat_lt item.number t.next_lost) e)) lost;
       numbers_begin = h.room.numbers_begin;
       room_for_lost = h.room.room_for_lost;
     }
 
-pub within_to : (t : Table) → IsWithin t → Tests t
+pub within_to : (t : Table) → IsWithin t → Limits t
 within_to t w =
     let next = t.next_file in
     let bodies : Every (BodyFits next) (bodies_of t) =
     every_two (λ (body : BodyId). body.len ≤ 8388608) (λ (body : BodyId). (2 ≤ body.file) × (body.file < next)) (BodyFits next) (bodies_of t)
     (λ body short file. record { short = short; begins = file.0; known = file.1 }) w.short_bodies
     (every_two (λ (body : BodyId). 2 ≤ body.file) (λ (body : BodyId). body.file < next) (λ (body : BodyId). (2 ≤ body.file) × (body.file < next)) (bodies_of t) (λ body a b. (a, b)) w.files_begin w.files_known) in
-    let alone : Every (Alone t) (bodies_of t) = everywhere (Alone t) (bodies_of t) (λ body. w.files_differ body.file) in
     let kept = bodies_kept (BodyFits next) t bodies in
     let entries : Every (EntryFits next) t.entries =
     every_two (λ (item : Item). item.entry.seen ≢ Unknown) (λ (item : Item). HasBody item × IfBody (BodyFits next) item.entry.body) (EntryFits next) t.entries
@@ -307,10 +268,27 @@ within_to t w =
       lost = all_to (is_lost_within next t.next_lost) t.lost
           (every_two (λ (item : LostItem). BodyFits next item.body) (λ (item : LostItem). item.number < t.next_lost) (λ (item : LostItem). is_lost_within next t.next_lost item ≡ true) t.lost
           (λ item fits known. and_both (is_body_within next item.body) (nat_lt item.number t.next_lost) (body_to next item.body fits) (lt_to item.number t.next_lost known)) (bodies_lost (BodyFits next) t bodies) w.numbers_known);
-      entries_alone = all_to (λ (item : Item). is_alone t item.entry.body) t.entries
-          (every_so (λ (item : Item). IfBody (Alone t) item.entry.body) (λ (item : Item). is_alone t item.entry.body ≡ true) t.entries (λ item a. alone_to t item.entry.body a) (bodies_kept (Alone t) t alone));
-      lost_alone = all_to (λ (item : LostItem). is_alone t (Some item.body)) t.lost
-          (every_so (λ (item : LostItem). Alone t item.body) (λ (item : LostItem). is_alone t (Some item.body) ≡ true) t.lost (λ item a. alone_to t (Some item.body) a) (bodies_lost (Alone t) t alone));
-      numbers = all_to (λ (item : LostItem). nat_le (number_count t item.number) 1) t.lost
-          (everywhere (λ (item : LostItem). nat_le (number_count t item.number) 1 ≡ true) t.lost (λ item. le_to (number_count t item.number) 1 (w.numbers_differ item.number)));
+      files = λ file. let P : ℕ → Type 0 = λ n. n ≤ 1 in subst P (file_count_is t file) (w.files_differ file);
+      numbers = w.numbers_differ;
     }
+
+-- a cache without records is within its bounds
+pub fresh_within : IsWithin fresh_table
+fresh_within = record {
+  in_order = record { ordered = tt; differ = tt; paths = tt };
+  known = tt;
+  queued_have_bodies = tt;
+  lost_paths = tt;
+  few_known = omega arith;
+  few_kept = omega arith;
+  few_bytes = omega arith;
+  short_bodies = tt;
+  files_differ = λ file. omega arith;
+  files_begin = tt;
+  files_known = tt;
+  files_left = omega arith;
+  numbers_differ = λ number. omega arith;
+  numbers_known = tt;
+  numbers_begin = omega arith;
+  room_for_lost = omega arith;
+}

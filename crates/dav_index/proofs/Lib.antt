@@ -8,5 +8,8 @@ pub mod Segments
 pub mod PlaceLemmas
 pub mod ItemLemmas
 pub mod EntryLemmas
+pub mod HeadLemmas
+pub mod Weights
 pub mod BoundLemmas
+pub mod AfterLemmas
 pub mod LawLemmas

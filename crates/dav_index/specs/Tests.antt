@@ -8,6 +8,8 @@ use Rattle.dav_index.specs.Bounds.{queued_count, queued_bytes}
 use Rattle.dav_index.specs.Tables.{has_file}
 use Rattle.dav_index.specs.declared.entry.Entry.{Entry}
 use Rattle.dav_index.specs.declared.lost.LostItem.{LostItem}
+use Rattle.dav_index.specs.declared.record.Record.{Record}
+use Rattle.dav_index.specs.declared.record.Record.TheVariants.{Forgot, Closed, Sent, Lost, Dropped}
 use Rattle.dav_index.specs.declared.table.Table.{Table}
 
 abbrev pub is_known : Seen → Bool
@@ -38,12 +40,25 @@ is_lost_within next_file next_lost item = is_body_within next_file item.body && 
 abbrev pub file_count : Table → ℕ → ℕ
 file_count t file = count_by (λ (item : Item). has_file file item.entry.body) t.entries + count_by (λ (item : LostItem). nat_eq item.body.file file) t.lost
 
-abbrev pub is_alone : Table → Option BodyId → Bool
-is_alone t None = true
-is_alone t (Some body) = nat_le (file_count t body.file) 1
-
+-- how many lost bytes have this number
 abbrev pub number_count : Table → ℕ → ℕ
 number_count t number = count_by (λ (item : LostItem). nat_eq item.number number) t.lost
+
+-- whether no other body of the table is in the file of the one that the record brings
+abbrev pub is_apart : Record → Table → Bool
+is_apart (Forgot path locks below) t = true
+is_apart (Closed path body) t = nat_le (file_count t body.file) 1
+is_apart (Sent path file seen) t = true
+is_apart (Lost number path stays) t = true
+is_apart (Dropped number) t = true
+
+-- whether no other lost bytes of the table have the number that the record gives
+abbrev pub is_numbered_apart : Record → Table → Bool
+is_numbered_apart (Forgot path locks below) t = true
+is_numbered_apart (Closed path body) t = true
+is_numbered_apart (Sent path file seen) t = true
+is_numbered_apart (Lost number path stays) t = nat_le (number_count t number) 1
+is_numbered_apart (Dropped number) t = true
 
 -- the limits on how many there are
 pub record HasRoom (t : Table) : Type 0 where

@@ -1,17 +1,20 @@
-ghost use Rattle.std.specs.Prelude.{◌≡◌, ◌↔◌, Some, IsTrue, min, count_by, nat_eq, nat_le};
+ghost use Rattle.std.specs.Prelude.{◌≡◌, ◌↔◌, ◌+◌, IsTrue, IfOk, OnOk, OnErr, min, count_by, nat_eq, nat_le};
 ghost use Rattle.std.specs.List.{list_all};
 ghost use Rattle.dav_index.specs.Item.{Item};
 ghost use Rattle.dav_index.specs.Bounds.{IsWithin, queued_count as queued_count_lem, queued_bytes as queued_bytes_lem, len_of};
-ghost use Rattle.dav_index.specs.Tables.{has_file as has_file_lem, queued_body};
-ghost use Rattle.dav_index.specs.Tests.{HasRoom, is_known as is_known_lem, is_body_within as is_body_within_lem, is_kept_within as is_kept_within_lem, waits_well as waits_well_lem, is_entry_within as is_entry_within_lem, is_lost_within as is_lost_within_lem, file_count as file_count_lem, is_alone as is_alone_lem, number_count as number_count_lem};
+ghost use Rattle.dav_index.specs.Records.{IsRecord};
+ghost use Rattle.dav_index.specs.Tables.{replay, has_file as has_file_lem, queued_body};
+ghost use Rattle.dav_index.specs.Tests.{HasRoom, is_known as is_known_lem, is_body_within as is_body_within_lem, is_kept_within as is_kept_within_lem, waits_well as waits_well_lem, is_entry_within as is_entry_within_lem, is_lost_within as is_lost_within_lem, file_count, is_apart as is_apart_lem, is_numbered_apart as is_numbered_apart_lem};
 ghost use Rattle.dav_index.specs.declared.lost.LostItem.{LostItem};
+ghost use Rattle.dav_index.specs.declared.table.Table.{Table};
 
 use crate::entries::Held;
 use crate::entry::{Entry, has_file};
 use crate::lost::LostItem;
+use crate::record::Record;
 use crate::table::Table;
 use dav_store::BodyId;
-use dav_text::Seen;
+use dav_text::{Memory, Seen};
 
 /// How many files may be known.
 const KNOWN_MAX: usize = 16384;
@@ -26,9 +29,23 @@ const QUEUED_BYTES_MAX: u64 = 1_073_741_824;
 const BODY_MAX: u64 = 8_388_608;
 
 impl Table {
-    /// Whether the table is within its bounds.
-    pub fn is_within(&self) -> bool
-        ensures { IsTrue result ↔ IsWithin self.now }
+    /// Does what the record says, and tells whether the table is still within its bounds. A record brings together only what
+    /// it names, so of files and numbers only these are counted.
+    pub fn replay_within(&mut self, row: u64, rec: &Record) -> Result<bool, Memory>
+        requires row { row ≡ self.old.records + 1 }
+        requires is_record { IsRecord rec.now }
+        requires within { IsWithin self.old }
+        ensures ok { OnOk result (self.new ≡ replay self.old rec.now) }
+        ensures err { OnErr result (self.new ≡ self.old) }
+        ensures told { IfOk result (λ told. IsTrue told ↔ IsWithin (replay self.old rec.now)) }
+    {
+        self.replay(row, rec)?;
+        Ok(self.is_still_within(rec))
+    }
+
+    // Whether the table is within its bounds, as it was before this record.
+    fn is_still_within(&self, rec: &Record) -> bool
+        ensures { (before : Table) → IsWithin before → self.now ≡ replay before rec.now → (IsTrue result ↔ IsWithin self.now) }
     {
         let entries = self.entries.as_slice();
         let lost = self.lost.as_slice();
@@ -41,13 +58,10 @@ impl Table {
         if !lost_within(lost, self.next_file, self.next_lost) {
             return false;
         }
-        if !self.entries_alone() {
+        if !self.is_apart(rec) {
             return false;
         }
-        if !self.lost_alone() {
-            return false;
-        }
-        self.numbers_differ()
+        self.is_numbered_apart(rec)
     }
 
     // Whether no limit on numbers is passed.
@@ -65,42 +79,33 @@ impl Table {
             && self.next_lost.saturating_add(queued as u64) < self.next_file
     }
 
-    // Whether no entry's body is in the file of another body.
-    fn entries_alone(&self) -> bool
-        ensures { result ≡ list_all (λ (item : Item). is_alone_lem self.now item.entry.body) self.now.entries }
+    // Whether no other body is in the file of the one that the record brings.
+    fn is_apart(&self, rec: &Record) -> bool
+        ensures { result ≡ is_apart_lem rec.now self.now }
     {
-        let entries = self.entries.as_slice();
-        entries.iter().all(|held| self.is_alone(held.entry().body))
-    }
-
-    // Whether no lost body is in the file of another body.
-    fn lost_alone(&self) -> bool
-        ensures { result ≡ list_all (λ (item : LostItem). is_alone_lem self.now (Some item.body)) self.now.lost }
-    {
-        let lost = self.lost.as_slice();
-        lost.iter().all(|item| self.is_alone(Some(item.body)))
-    }
-
-    // Whether each number has one body at most.
-    fn numbers_differ(&self) -> bool
-        ensures { result ≡ list_all (λ (item : LostItem). nat_le (number_count_lem self.now item.number) 1) self.now.lost }
-    {
-        let lost = self.lost.as_slice();
-        lost.iter().all(|item| number_count(lost, item.number) <= 1)
-    }
-
-    // Whether no other body is in the file of this one.
-    fn is_alone(&self, body: Option<BodyId>) -> bool
-        ensures { result ≡ is_alone_lem self.now body }
-    {
-        match body {
-            Some(body) => {
-                let kept = kept_count(self.entries.as_slice(), body.file);
-                let lost = lost_count(self.lost.as_slice(), body.file);
-                kept.saturating_add(lost) <= 1
-            }
-            None => true,
+        match rec {
+            Record::Closed { body, .. } => self.has_one_at_most(body.file),
+            _ => true,
         }
+    }
+
+    // Whether no other lost bytes have the number that the record gives.
+    fn is_numbered_apart(&self, rec: &Record) -> bool
+        ensures { result ≡ is_numbered_apart_lem rec.now self.now }
+    {
+        match rec {
+            Record::Lost { number, .. } => number_count(self.lost.as_slice(), *number) <= 1,
+            _ => true,
+        }
+    }
+
+    // Whether at most one body is in this file.
+    fn has_one_at_most(&self, file: u32) -> bool
+        ensures { result ≡ nat_le (file_count self.now file) 1 }
+    {
+        let kept = kept_count(self.entries.as_slice(), file);
+        let lost = lost_count(self.lost.as_slice(), file);
+        kept.saturating_add(lost) <= 1
     }
 }
 

@@ -1,3 +1,5 @@
+ghost use Rattle.std.specs.Prelude.{◌≡◌, None};
+
 use crate::entries::Held;
 use crate::lost::LostItem;
 use dav_text::{Path, Text};
@@ -11,7 +13,9 @@ pub struct Prepared {
 
 impl Prepared {
     /// No memory: enough where the record makes neither an entry nor lost bytes.
-    pub fn nothing() -> Prepared {
+    pub fn nothing() -> Prepared
+        ensures { result ≡ record { fresh = None; loss = None } }
+    {
         Prepared {
             fresh: None,
             loss: None,

@@ -123,8 +123,9 @@ fn a_body_in_file_1_is_none(rt: HostRuntime) -> Result<(), Fail> {
 /// A record, written short.
 #[derive(Clone, Copy)]
 enum Act<'a> {
-    Closed(&'a str, u8),
-    Sent(&'a str, u8),
+    Closed(&'a str, u32),
+    Long(&'a str, u32, u64),
+    Sent(&'a str, u32),
     Lost(u8, &'a str, u8),
     Dropped(u8),
     Forgot(&'a str, u8),
@@ -134,16 +135,13 @@ enum Act<'a> {
 fn payload_of(alloc: Global, act: Act<'_>) -> Result<Vec<u8>, Fail> {
     let mut text = Vec::new(alloc);
     match act {
-        Act::Closed(path, file) => {
-            text.push(3)?;
-            push_path(&mut text, path)?;
-            text.extend_from_slice(&[0, 0, 0, file, 0, 0, 0, 0, 0, 0, 0, 9])?;
-            text.extend_from_slice(&[7; 32])?;
-        }
+        Act::Closed(path, file) => push_closed(&mut text, path, file, 9)?,
+        Act::Long(path, file, len) => push_closed(&mut text, path, file, len)?,
         Act::Sent(path, file) => {
             text.push(4)?;
             push_path(&mut text, path)?;
-            text.extend_from_slice(&[0, 0, 0, file, 2])?;
+            text.extend_from_slice(&file.to_be_bytes())?;
+            text.push(2)?;
         }
         Act::Lost(number, path, stays) => {
             text.extend_from_slice(&[5, 0, 0, 0, number])?;
@@ -158,6 +156,16 @@ fn payload_of(alloc: Global, act: Act<'_>) -> Result<Vec<u8>, Fail> {
         }
     }
     Ok(text)
+}
+
+/// The record of a close with so many bytes in this file.
+fn push_closed(text: &mut Vec<u8>, path: &str, file: u32, len: u64) -> Result<(), Fail> {
+    text.push(3)?;
+    push_path(text, path)?;
+    text.extend_from_slice(&file.to_be_bytes())?;
+    text.extend_from_slice(&len.to_be_bytes())?;
+    text.extend_from_slice(&[7; 32])?;
+    Ok(())
 }
 
 /// A path of at most 255 bytes behind its length.
@@ -281,7 +289,7 @@ fn records_of_what_is_not_there(rt: HostRuntime) -> Result<(), Fail> {
     Ok(())
 }
 
-/// Whether the table after the records is within its bounds.
+/// Whether each of the records leaves the table within its bounds.
 fn is_within(alloc: Global, acts: &[Act<'_>]) -> Result<bool, Fail> {
     let mut table = Table::new(alloc);
     for act in acts {
@@ -289,23 +297,53 @@ fn is_within(alloc: Global, acts: &[Act<'_>]) -> Result<bool, Fail> {
         let Some(row) = table.records.checked_add(1) else {
             return Ok(false);
         };
-        table.replay(row, &record)?;
+        if !table.replay_within(row, &record)? {
+            return Ok(false);
+        }
     }
-    Ok(table.is_within())
+    Ok(true)
 }
 
 #[test]
-fn which_tables_are_within_their_bounds(rt: HostRuntime) -> Result<(), Fail> {
+fn which_records_leave_a_table_within_its_bounds(rt: HostRuntime) -> Result<(), Fail> {
     let alloc = rt.alloc();
-    assert!(rt; is_within(alloc, &[])?);
-    let one: [Act<'_>; 1] = [Act::Closed("/a", 2)];
-    assert!(rt; is_within(alloc, &one)?);
-    let twice: [Act<'_>; 2] = [Act::Closed("/a", 3), Act::Closed("/b", 3)];
-    assert!(rt; !is_within(alloc, &twice)?);
-    let renewed: [Act<'_>; 2] = [Act::Closed("/a", 3), Act::Closed("/a", 3)];
-    assert!(rt; is_within(alloc, &renewed)?);
-    let numbered: [Act<'_>; 1] = [Act::Dropped(1)];
-    assert!(rt; !is_within(alloc, &numbered)?);
+    let kept: [&'static [Act<'static>]; 7] = [
+        &[],
+        &[Act::Closed("/a", 3), Act::Closed("/b", 2)],
+        &[Act::Closed("/a", 3), Act::Closed("/a", 3)],
+        &[Act::Long("/a", 2, 8_388_608)],
+        &[Act::Sent("/a", 4_294_967_294)],
+        &[
+            Act::Closed("/a", 5),
+            Act::Lost(1, "/a", 0),
+            Act::Closed("/b", 4),
+            Act::Lost(2, "/b", 1),
+        ],
+        &[Act::Closed("/a", 3), Act::Dropped(1)],
+    ];
+    for acts in kept {
+        assert!(rt; is_within(alloc, acts)?);
+    }
+    let passed: [&'static [Act<'static>]; 6] = [
+        &[Act::Closed("/a", 3), Act::Closed("/b", 3)],
+        &[
+            Act::Closed("/a", 3),
+            Act::Lost(1, "/a", 0),
+            Act::Closed("/b", 3),
+        ],
+        &[Act::Long("/a", 2, 8_388_609)],
+        &[Act::Sent("/a", 4_294_967_295)],
+        &[
+            Act::Closed("/a", 5),
+            Act::Lost(1, "/a", 0),
+            Act::Closed("/b", 4),
+            Act::Lost(1, "/b", 1),
+        ],
+        &[Act::Closed("/a", 3), Act::Dropped(2)],
+    ];
+    for acts in passed {
+        assert!(rt; !is_within(alloc, acts)?);
+    }
     Ok(())
 }
 

@@ -18,7 +18,7 @@ use Rattle.dav_deeds.specs.declared.deed.Step.{Step}
 use Rattle.dav_deeds.specs.DeskTable.{DeskTable, reopened}
 use Rattle.dav_deeds.specs.Legal.{Legal, table_after}
 use Rattle.dav_deeds.specs.Fate.{Fate, Queued, Sent, Lost, story, IsLostAs, IsKeptAs}
-use Rattle.dav_deeds.proofs.Restart.{head_found, none_found}
+use Rattle.dav_index.proofs.HeadLemmas.{head_found, none_found}
 use Rattle.dav_deeds.proofs.Stories.{kept, legal_front}
 use Rattle.dav_cache.specs.Stands.{IsIn}
 use Rattle.dav_cache.specs.Recovers.{Recovers}

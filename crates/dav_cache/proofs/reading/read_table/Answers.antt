@@ -15,7 +15,7 @@ returns-in-Err-clause-refused g c h place why url reading =
 
 pub loop-row-preserved : goal.loop-row-preserved
 loop-row-preserved g c = record {
-  within = c.in-Ok-Row.ensures.within c.loop-row.invariant.within;
+  within = c.in-Ok-Row.ensures.within;
   counted = let counted = c.in-Ok-Row.ensures.counted c.in-Ok-Row.field-0-is in ap (λ (n : ℕ). n + 1) (sym counted);
   read = λ h url reading.
       let was = c.loop-row.invariant.read h url reading in

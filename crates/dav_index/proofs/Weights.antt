@@ -5,7 +5,7 @@ use Rattle.dav_text.specs.Path.{PathParts}
 use Rattle.dav_index.specs.Item.{Item}
 use Rattle.dav_index.specs.Items.{Every, has_path, comes_before, entry_at, with_changed, with_new, goes_with, without_entry}
 use Rattle.dav_index.specs.declared.entry.Entry.{Entry}
-use Rattle.dav_deeds.proofs.Restart.{head_found, head_changed, head_new, head_without, none_found, none_changed, none_new, none_without}
+use Rattle.dav_index.proofs.HeadLemmas.{head_found, head_changed, head_new, head_without, none_found, none_changed, none_new, none_without}
 
 -- the sum of what the entries weigh
 abbrev pub weight : (Entry → ℕ) → List Item → ℕ
