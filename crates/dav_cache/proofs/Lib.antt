@@ -1,4 +1,5 @@
 pub mod Standing
+pub mod Filing
 pub mod StartLemmas
 pub mod DueLemmas
 pub mod LiveLemmas

@@ -30,7 +30,7 @@ unless_file None file len body is = is.0
 unless_file (Some fault) file len body is = absurd is
 
 -- a new body is in the next file
-new_file : (t : DeskTable) (deed : Deed) (id : BodyId) → IsDeed t deed → new_body deed ≡ Some id → id.file ≡ t.index.next_file
+pub new_file : (t : DeskTable) (deed : Deed) (id : BodyId) → IsDeed t deed → new_body deed ≡ Some id → id.file ≡ t.index.next_file
 new_file t (Store path len body) id is new = unless_file (store_refusal t.index path len) t.index.next_file len id (subst (λ (o : Option BodyId). IsBodyUnless (store_refusal t.index path len) t.index.next_file len o) new is.1)
 new_file t (Forget path locks below) id is new = cc new
 new_file t Take id is new = cc new

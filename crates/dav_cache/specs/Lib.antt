@@ -1,4 +1,5 @@
 pub mod Stands
+pub mod Files
 pub mod Recovers
 pub mod Opening
 pub mod Due

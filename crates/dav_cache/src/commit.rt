@@ -5,6 +5,7 @@ ghost use Rattle.dav_store.specs.Rows.{IsPayload, IsReady};
 ghost use Rattle.dav_store.specs.View.{journal_end};
 ghost use Rattle.dav_store.specs.declared.body_id.BodyId.{BodyId};
 ghost use Rattle.dav_cache.specs.Stands.{EachBody, EachImage, IsHeld, IsSafe, Stands, StandsEither, IsFile, IsWritten, IsAdding, Spares, IsCommit};
+ghost use Rattle.dav_cache.specs.Files.{RestStays, ChangesOnly, AreEmpty, IsStored};
 ghost use Rattle.dav_index.specs.declared.record.Record.{Record};
 ghost use Rattle.dav_index.specs.declared.table.Table.{Table};
 ghost use Rattle.dav_cache.specs.Recovers.{Recovers, RecoversEither, IsConsistent};
@@ -41,6 +42,8 @@ fn keep<D: Disk>(
     ensures ready { D.honest → (end : ℕ) → IsReady end (D.seen disk.old 0) (D.past disk.old (D.moment disk.old) 0)
         → IsReady end (D.seen disk.new 0) (D.past disk.new (D.moment disk.new) 0) }
     ensures touches { D.honest → Touches (IsFile fresh) (D.moment disk.old) (D.moment disk.new) (D.past disk.old) (D.past disk.new) }
+    ensures others { D.honest → RestStays (IsFile fresh) (D.seen disk.old) (D.seen disk.new) }
+    ensures stored { D.honest → OnOk result (IsStored fresh bytes.now [] (D.seen disk.new) (D.past disk.new (D.moment disk.new))) }
     ensures only { OnlyDisk result }
     ensures cause { IsCaused (D.faults disk.old) (D.faults disk.new) result }
 {
@@ -70,6 +73,8 @@ pub(crate) fn release<D: Disk>(
     ensures ready { D.honest → (end : ℕ) → IsReady end (D.seen disk.old 0) (D.past disk.old (D.moment disk.old) 0)
         → IsReady end (D.seen disk.new 0) (D.past disk.new (D.moment disk.new) 0) }
     ensures touches { D.honest → Touches (Contains freed.now) (D.moment disk.old) (D.moment disk.new) (D.past disk.old) (D.past disk.new) }
+    ensures others { D.honest → RestStays (Contains freed.now) (D.seen disk.old) (D.seen disk.new) }
+    ensures emptied { D.honest → OnOk result (AreEmpty freed.now (D.seen disk.new) (D.past disk.new (D.moment disk.new))) }
     ensures only { OnlyDisk result }
     ensures cause { IsCaused (D.faults disk.old) (D.faults disk.new) result }
 {
@@ -106,6 +111,10 @@ fn commit_rows<D: Disk>(
         → EachImage (D.past disk.new) (D.moment disk.old) (D.moment disk.new) (Stands rows holds given)) }
     ensures ready { D.honest → OnOk result (IsReady (journal_end journal.new) (D.seen disk.new 0) (D.past disk.new (D.moment disk.new) 0)) }
     ensures touches { D.honest → Touches (IsWritten fresh freed.now) (D.moment disk.old) (D.moment disk.new) (D.past disk.old) (D.past disk.new) }
+    ensures others { D.honest → RestStays (IsWritten fresh freed.now) (D.seen disk.old) (D.seen disk.new) }
+    ensures early { D.honest → IfErr result (λ stop. stop ≡ Before → ChangesOnly D.moment D.seen D.past (IsFile fresh) disk.old disk.new) }
+    ensures stored { D.honest → OnOk result (IsStored fresh bytes.now freed.now (D.seen disk.new) (D.past disk.new (D.moment disk.new))) }
+    ensures emptied { D.honest → OnOk result (AreEmpty freed.now (D.seen disk.new) (D.past disk.new (D.moment disk.new))) }
     ensures cause { HasCause (D.faults disk.old) (D.faults disk.new) result }
 {
     match keep(bodies, disk, fresh, bytes) {
@@ -150,6 +159,10 @@ pub(crate) fn commit<D: Disk>(
         → EachImage (D.past disk.new) (D.moment disk.old) (D.moment disk.new) (Recovers url before given)) }
     ensures ready { D.honest → OnOk result (IsReady (journal_end journal.new) (D.seen disk.new 0) (D.past disk.new (D.moment disk.new) 0)) }
     ensures touches { D.honest → Touches (IsWritten fresh freed.now) (D.moment disk.old) (D.moment disk.new) (D.past disk.old) (D.past disk.new) }
+    ensures others { D.honest → RestStays (IsWritten fresh freed.now) (D.seen disk.old) (D.seen disk.new) }
+    ensures early { D.honest → IfErr result (λ stop. stop ≡ Before → ChangesOnly D.moment D.seen D.past (IsFile fresh) disk.old disk.new) }
+    ensures stored { D.honest → OnOk result (IsStored fresh bytes.now freed.now (D.seen disk.new) (D.past disk.new (D.moment disk.new))) }
+    ensures emptied { D.honest → OnOk result (AreEmpty freed.now (D.seen disk.new) (D.past disk.new (D.moment disk.new))) }
     ensures cause { HasCause (D.faults disk.old) (D.faults disk.new) result }
 {
     commit_rows(journal, bodies, disk, fresh, bytes, row, freed)

@@ -36,6 +36,8 @@ impl<D: Disk> Recorder<D> {
     ghost use Rattle.dav_cache.specs.Planned.{IsPlanned, IsQuiet, kept_table};
     ghost use Rattle.dav_cache.specs.Opening.{IsIndexOf, IsStartFault, IsFetchFault, desk_fault, dead_after};
     ghost use Rattle.dav_cache.specs.Survives.{IsLive, IsLeft};
+    ghost use Rattle.dav_cache.specs.Files.{ChangesOnly, AreEmpty, IsStored};
+    ghost use Rattle.dav_cache.specs.Stands.{IsFile, IsWritten};
 
     /// Opens the index of a disk for a URL, which is made where nothing stands, and gives the table that it leads to. Answers
     /// `NotACache` with the offset of the first row that is not as it must be, and `OtherServer` where the index is one of
@@ -53,6 +55,7 @@ impl<D: Disk> Recorder<D> {
         ensures fault { IfErr result (λ both. IsStartFault D.honest url.now (D.seen disk 0) (D.faults disk) (D.faults both.0) both.1) }
         ensures ready { D.honest → IfOk result (λ both. IsReady (journal_end both.0.journal) (D.seen both.0.disk 0) (D.past both.0.disk (D.moment both.0.disk) 0)) }
         ensures fresh { IfOk result (λ both. (both.0.trace.steps.items ≡ []) × (both.0.under ≡ None) × (both.0.dead ≡ None)) }
+        ensures changes { D.honest → MatchResult result (λ both. ChangesOnly D.moment D.seen D.past (λ f. f ≡ 0) disk both.0.disk) (λ both. ChangesOnly D.moment D.seen D.past (λ f. f ≡ 0) disk both.0) }
         ensures faults { MatchResult result (λ both. D.faults disk ≤ D.faults both.0.disk) (λ both. D.faults disk ≤ D.faults both.0) }
     {
         let mut disk = disk;
@@ -112,6 +115,10 @@ impl<D: Disk> Recorder<D> {
             × (self.new.trace.steps.items ≡ self.old.trace.steps.items)
             × ((self.new.under ≡ self.old.under) ⊎ (self.new.under ≡ Some (record step { moment = D.moment self.new.disk })))) }
         ensures ready { D.honest → OnOk result (IsReady (journal_end self.new.journal) (D.seen self.new.disk 0) (D.past self.new.disk (D.moment self.new.disk) 0)) }
+        ensures changes { D.honest → ChangesOnly D.moment D.seen D.past (IsWritten fresh freed.now) self.old.disk self.new.disk }
+        ensures early { D.honest → OnErr result (ChangesOnly D.moment D.seen D.past (IsFile fresh) self.old.disk self.new.disk ⊎ (self.new.under ≡ Some (record step { moment = D.moment self.new.disk }))) }
+        ensures stored { D.honest → OnOk result (IsStored fresh bytes.now freed.now (D.seen self.new.disk) (D.past self.new.disk (D.moment self.new.disk))) }
+        ensures emptied { D.honest → OnOk result (AreEmpty freed.now (D.seen self.new.disk) (D.past self.new.disk (D.moment self.new.disk))) }
         ensures faults { D.faults self.old.disk ≤ D.faults self.new.disk }
     {
         let mut step = step;
@@ -160,6 +167,8 @@ impl<D: Disk> Recorder<D> {
             × (self.new.trace.steps.items ≡ self.old.trace.steps.items) × (self.new.under ≡ self.old.under)) }
         ensures ready { D.honest → IsReady (journal_end self.old.journal) (D.seen self.old.disk 0) (D.past self.old.disk (D.moment self.old.disk) 0)
             → IsReady (journal_end self.new.journal) (D.seen self.new.disk 0) (D.past self.new.disk (D.moment self.new.disk) 0) }
+        ensures changes { D.honest → ChangesOnly D.moment D.seen D.past (Contains freed.now) self.old.disk self.new.disk }
+        ensures emptied { D.honest → OnOk result (AreEmpty freed.now (D.seen self.new.disk) (D.past self.new.disk (D.moment self.new.disk))) }
         ensures faults { D.faults self.old.disk ≤ D.faults self.new.disk }
     {
         let mut step = step;
@@ -192,6 +201,7 @@ impl<D: Disk> Recorder<D> {
         ensures trace { (self.new.trace ≡ self.old.trace) × (self.new.under ≡ self.old.under) }
         ensures ready { D.honest → IsReady (journal_end self.old.journal) (D.seen self.old.disk 0) (D.past self.old.disk (D.moment self.old.disk) 0)
             → IsReady (journal_end self.new.journal) (D.seen self.new.disk 0) (D.past self.new.disk (D.moment self.new.disk) 0) }
+        ensures changes { D.honest → ChangesOnly D.moment D.seen D.past (λ _. ⊥) self.old.disk self.new.disk }
         ensures faults { D.faults self.old.disk ≤ D.faults self.new.disk }
     {
         match self.bodies.fetch(&mut self.disk, id) {

@@ -1,7 +1,8 @@
-use Rattle.std.proofs.Common.{get_or, arith}
+use Rattle.std.proofs.Common.{get_or, arith, refl}
 use Rattle.std.specs.List.{Contains}
 use Rattle.dav_disk.proofs.Stretch.{touches_begin}
 use Rattle.dav_cache.proofs.Standing.{stands_now, next_file, touches_file, free_goes, ready_goes}
+use Rattle.dav_cache.proofs.Filing.{empties_next, rest_goes}
 use Rattle.dav_cache.proofs.commit.release.Goals as goal
 
 pub loop-file-init : goal.loop-file-init
@@ -9,6 +10,8 @@ loop-file-init g c = record {
   still = λ h rows holds given end spared safe. (safe, stands_now (g.D.Disk.past c.args.disk.now) (g.D.Disk.moment c.args.disk.now) safe);
   ready = λ h end ready. ready;
   touches = λ h. touches_begin (Contains c.args.freed.now) (g.D.Disk.moment c.args.disk.now) (g.D.Disk.past c.args.disk.now);
+  others = λ h f out. refl;
+  emptied = λ h j d lt. absurd (omega (arith, lt));
   faults = omega arith;
 }
 
@@ -22,6 +25,9 @@ loop-file-preserved g c =
           (c.release.ensures.others h) spared (c.loop-file.invariant.still h rows holds given end spared safe);
       ready = λ h end ready. ready_goes file next.1 (c.release.ensures.touches h) end (g.D.Disk.seen c.loop-file.disk) (g.D.Disk.seen c.release.new.disk) (c.release.ensures.others h) (c.loop-file.invariant.ready h end ready);
       touches = λ h. touches_file c.args.freed.now file (c.loop-file.invariant.touches h) next.0 (c.release.ensures.touches h);
+      others = λ h. rest_goes c.args.freed.now file (g.D.Disk.seen c.args.disk.now) (g.D.Disk.seen c.loop-file.disk) (g.D.Disk.seen c.release.new.disk) next.0 (c.loop-file.invariant.others h) (c.release.ensures.others h);
+      emptied = λ h. empties_next c.args.freed.now c.loop-file.file-index (g.D.Disk.seen c.loop-file.disk) (g.D.Disk.seen c.release.new.disk) c.loop-file-test.true (c.release.ensures.touches h) (c.release.ensures.others h)
+          (c.in_ok-release.ensures.seen h, c.in_ok-release.ensures.empty h) (c.loop-file.invariant.emptied h);
       faults = omega (arith, c.loop-file.invariant.faults, c.release.ensures.cause.later);
     }
 
@@ -56,3 +62,9 @@ returns-clause-safe g c h rows holds given end spared safe = (c.loop-file.invari
 
 pub returns-clause-any_moment : goal.returns-clause-any_moment
 returns-clause-any_moment g c h rows holds given end spared safe = (c.loop-file.invariant.still h rows holds given end spared safe).1
+
+pub returns-in_err-release-clause-others : goal.returns-in_err-release-clause-others
+returns-in_err-release-clause-others g c h =
+    let file = get_or c.args.freed.now c.loop-file.file-index 0 in
+    let next = next_file c.args.freed.now c.loop-file.file-index c.requires.apart c.loop-file-test.true in
+    rest_goes c.args.freed.now file (g.D.Disk.seen c.args.disk.now) (g.D.Disk.seen c.loop-file.disk) (g.D.Disk.seen c.release.new.disk) next.0 (c.loop-file.invariant.others h) (c.release.ensures.others h)

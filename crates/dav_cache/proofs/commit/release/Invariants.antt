@@ -4,6 +4,8 @@ use Rattle.dav_disk.specs.Disk.{Touches}
 use Rattle.dav_store.specs.Rows.{IsReady}
 use Rattle.dav_store.specs.declared.body_id.BodyId.{BodyId}
 use Rattle.dav_cache.specs.Stands.{EachImage, IsSafe, Stands, Spares}
+use Rattle.dav_cache.specs.Files.{RestStays}
+use Rattle.dav_cache.proofs.Filing.{AreEmptyTo}
 use Rattle.dav_cache.proofs.commit.release.Given as goal
 
 abbrev pub invariant-loop-file : goal.invariant-loop-file
@@ -15,5 +17,7 @@ invariant-loop-file g l = record {
   ready : g.D.Disk.honest → (end : ℕ) → IsReady end (g.D.Disk.seen l.initial.disk 0) (g.D.Disk.past l.initial.disk (g.D.Disk.moment l.initial.disk) 0)
       → IsReady end (g.D.Disk.seen l.disk 0) (g.D.Disk.past l.disk (g.D.Disk.moment l.disk) 0);
   touches : g.D.Disk.honest → Touches (Contains l.freed) (g.D.Disk.moment l.initial.disk) (g.D.Disk.moment l.disk) (g.D.Disk.past l.initial.disk) (g.D.Disk.past l.disk);
+  others : g.D.Disk.honest → RestStays (Contains l.freed) (g.D.Disk.seen l.initial.disk) (g.D.Disk.seen l.disk);
+  emptied : g.D.Disk.honest → AreEmptyTo l.file-index l.freed (g.D.Disk.seen l.disk) (g.D.Disk.past l.disk (g.D.Disk.moment l.disk));
   faults : g.D.Disk.faults l.initial.disk ≤ g.D.Disk.faults l.disk;
 }

@@ -1,4 +1,4 @@
-use Rattle.std.proofs.Common.{◌≡◌, ℕ, ◌∷◌, [], ◌++◌, refl, sym, ◌∙◌, ap, subst}
+use Rattle.std.proofs.Common.{◌≡◌, inl, ℕ, ◌∷◌, [], ◌++◌, refl, sym, ◌∙◌, ap, subst}
 use Rattle.dav_store.specs.Rows.{IsReady}
 use Rattle.dav_index.specs.Tables.{replay}
 use Rattle.dav_deeds.specs.Legal.{table_after}
@@ -6,6 +6,8 @@ use Rattle.dav_cache.specs.Planned.{kept_table}
 use Rattle.dav_cache.specs.Survives.{IsLive}
 use Rattle.dav_cache.specs.declared.recorder.Recorder.{Recorder}
 use Rattle.dav_cache.proofs.LiveLemmas.{stamped, kept_after, left_before, left_under, live_on}
+use Rattle.dav_cache.specs.Files.{ChangesOnly, AreEmpty, IsStored}
+use Rattle.dav_cache.specs.Stands.{IsWritten}
 use Rattle.dav_cache.proofs.recorder.Recorder.enter.Goals as goal
 
 pub returns-in-Ok-clause-ready : goal.returns-in-Ok-clause-ready
@@ -40,3 +42,21 @@ returns-in-Err-Under-clause-left g c h url opening start given legal planned is 
     let after = replay (kept_table t) planned.r in
     left_under g.D.Disk.moment g.D.Disk.seen g.D.Disk.past url opening start given old is _ (c.commit.ensures.touches h) c.args.step legal after (kept_after t c.args.step planned.r planned.record_is)
     (c.commit.ensures.any_moment h url (kept_table t) after planned.r given planned.due is.consistent) c.calls-in-Err-Under.result refl refl
+
+pub returns-in-Ok-clause-changes : goal.returns-in-Ok-clause-changes
+returns-in-Ok-clause-changes g c h = subst (λ (d : Recorder g.row.D.Denot). ChangesOnly g.D.Disk.moment g.D.Disk.seen g.D.Disk.past (IsWritten c.args.fresh c.args.freed.now) c.args.self.now.disk d.disk) (sym c.push.ensures.rest) (record { touches = c.commit.ensures.touches h; others = c.commit.ensures.others h })
+
+pub returns-in-Err-Before-clause-changes : goal.returns-in-Err-Before-clause-changes
+returns-in-Err-Before-clause-changes g c h = record { touches = c.commit.ensures.touches h; others = c.commit.ensures.others h }
+
+pub returns-in-Err-Under-clause-changes : goal.returns-in-Err-Under-clause-changes
+returns-in-Err-Under-clause-changes g c h = record { touches = c.commit.ensures.touches h; others = c.commit.ensures.others h }
+
+pub returns-in-Err-Before-clause-early : goal.returns-in-Err-Before-clause-early
+returns-in-Err-Before-clause-early g c h = let early = rw c.in-Err-Before.field-0-is at c.in-Err-Before.ensures.early h in inl (early refl)
+
+pub returns-in-Ok-clause-stored : goal.returns-in-Ok-clause-stored
+returns-in-Ok-clause-stored g c h = subst (λ (d : Recorder g.row.D.Denot). IsStored c.args.fresh c.args.bytes.now c.args.freed.now (g.D.Disk.seen d.disk) (g.D.Disk.past d.disk (g.D.Disk.moment d.disk))) (sym c.push.ensures.rest) (c.in-Ok.ensures.stored h)
+
+pub returns-in-Ok-clause-emptied : goal.returns-in-Ok-clause-emptied
+returns-in-Ok-clause-emptied g c h = subst (λ (d : Recorder g.row.D.Denot). AreEmpty c.args.freed.now (g.D.Disk.seen d.disk) (g.D.Disk.past d.disk (g.D.Disk.moment d.disk))) (sym c.push.ensures.rest) (c.in-Ok.ensures.emptied h)

@@ -7,6 +7,8 @@ use Rattle.dav_cache.specs.Recovers.{rows_of}
 use Rattle.dav_cache.specs.Survives.{IsLive}
 use Rattle.dav_cache.specs.declared.recorder.Recorder.{Recorder}
 use Rattle.dav_cache.proofs.LiveLemmas.{stamped, kept_quiet, left_before, live_on, quiet_images}
+use Rattle.std.specs.List.{Contains}
+use Rattle.dav_cache.specs.Files.{ChangesOnly, AreEmpty}
 use Rattle.dav_cache.proofs.recorder.Recorder.enter_quiet.Goals as goal
 
 pub returns-in-Ok-clause-ready : goal.returns-in-Ok-clause-ready
@@ -38,3 +40,12 @@ returns-in-Err-clause-left g c h url opening start given quiet is =
     let disk = c.release.new.disk in
     left_before g.D.Disk.moment g.D.Disk.seen g.D.Disk.past url opening start given old is _ (c.release.ensures.touches h)
     (quiet_images k (g.D.Disk.past disk) (g.D.Disk.moment old.disk) (g.D.Disk.moment disk) (c.release.ensures.any_moment h (rows_of url k.records) (bodies_of table) given old.journal.end quiet.spared k.safe)) refl refl
+
+pub returns-in-Ok-clause-changes : goal.returns-in-Ok-clause-changes
+returns-in-Ok-clause-changes g c h = subst (λ (d : Recorder g.row.D.Denot). ChangesOnly g.D.Disk.moment g.D.Disk.seen g.D.Disk.past (Contains c.args.freed.now) c.args.self.now.disk d.disk) (sym c.push.ensures.rest) (record { touches = c.release.ensures.touches h; others = c.release.ensures.others h })
+
+pub returns-in-Err-clause-changes : goal.returns-in-Err-clause-changes
+returns-in-Err-clause-changes g c h = record { touches = c.release.ensures.touches h; others = c.release.ensures.others h }
+
+pub returns-in-Ok-clause-emptied : goal.returns-in-Ok-clause-emptied
+returns-in-Ok-clause-emptied g c h = subst (λ (d : Recorder g.row.D.Denot). AreEmpty c.args.freed.now (g.D.Disk.seen d.disk) (g.D.Disk.past d.disk (g.D.Disk.moment d.disk))) (sym c.push.ensures.rest) (c.in-Ok.ensures.emptied h)

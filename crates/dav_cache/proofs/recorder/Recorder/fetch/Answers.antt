@@ -8,6 +8,7 @@ use Rattle.dav_cache.specs.declared.recorder.Recorder.{Recorder}
 use Rattle.dav_cache.proofs.LiveLemmas.{live_looks}
 use Rattle.dav_cache.proofs.Standing.{rest_moves}
 use Rattle.dav_cache.proofs.StartLemmas.{fetch_fault, dead_of, starved_of}
+use Rattle.dav_cache.specs.Files.{ChangesOnly}
 use Rattle.dav_cache.proofs.recorder.Recorder.fetch.Goals as goal
 
 pub returns-in-Ok-clause-live : goal.returns-in-Ok-clause-live
@@ -56,3 +57,9 @@ returns-in-Err-clause-trace g c = (ap (λ (d : Recorder g.row.D.Denot). d.trace)
 pub returns-in-Err-clause-seen : goal.returns-in-Err-clause-seen
 returns-in-Err-clause-seen g c h =
     subst (λ (d : Recorder g.row.D.Denot). AllStay (g.D.Disk.seen c.args.self.now.disk) (g.D.Disk.seen d.disk)) (sym c.fail.ensures.rest) (c.fetch.ensures.seen h)
+
+pub returns-in-Ok-clause-changes : goal.returns-in-Ok-clause-changes
+returns-in-Ok-clause-changes g c h = record { touches = c.fetch.ensures.touches h; others = λ f out. c.fetch.ensures.seen h f }
+
+pub returns-in-Err-clause-changes : goal.returns-in-Err-clause-changes
+returns-in-Err-clause-changes g c h = subst (λ (d : Recorder g.row.D.Denot). ChangesOnly g.D.Disk.moment g.D.Disk.seen g.D.Disk.past (λ _. ⊥) c.args.self.now.disk d.disk) (sym c.fail.ensures.rest) (record { touches = c.fetch.ensures.touches h; others = λ f out. c.fetch.ensures.seen h f })
