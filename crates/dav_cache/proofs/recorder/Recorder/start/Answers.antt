@@ -1,4 +1,4 @@
-use Rattle.std.proofs.Common.{ap, sym, subst}
+use Rattle.std.proofs.Common.{◌≡◌, ap, sym, subst}
 use Rattle.dav_store.specs.declared.journal.Journal.{Journal}
 use Rattle.dav_cache.specs.Stands.{EachImage}
 use Rattle.dav_cache.specs.Recovers.{Recovers}
