@@ -16,14 +16,14 @@ returns-in-Some-clause-asked g c =
 pub returns-in-Some-clause-changes : goal.returns-in-Some-clause-changes
 returns-in-Some-clause-changes g c h = changes_none g.D.Disk.moment g.D.Disk.seen g.D.Disk.past (IsWritten (fresh_by c.args.self.now.table c.args.ask.now) (freed_by c.args.self.now.table c.args.now c.args.ask.now)) c.args.self.now.recorder.disk c.args.self.now.recorder.disk refl
 
-pub returns-in_err-plan-clause-changes : goal.returns-in_err-plan-clause-changes
-returns-in_err-plan-clause-changes g c h = changes_none g.D.Disk.moment g.D.Disk.seen g.D.Disk.past (IsWritten (fresh_by c.args.self.now.table c.args.ask.now) (freed_by c.args.self.now.table c.args.now c.args.ask.now)) c.args.self.now.recorder.disk c.args.self.now.recorder.disk refl
+pub returns-in_err-planned-clause-changes : goal.returns-in_err-planned-clause-changes
+returns-in_err-planned-clause-changes g c h = changes_none g.D.Disk.moment g.D.Disk.seen g.D.Disk.past (IsWritten (fresh_by c.args.self.now.table c.args.ask.now) (freed_by c.args.self.now.table c.args.now c.args.ask.now)) c.args.self.now.recorder.disk c.args.self.now.recorder.disk refl
 
-pub returns-in-None-clause-changes : goal.returns-in-None-clause-changes
-returns-in-None-clause-changes g c h = changes_none g.D.Disk.moment g.D.Disk.seen g.D.Disk.past (IsWritten (fresh_by c.args.self.now.table c.args.ask.now) (freed_by c.args.self.now.table c.args.now c.args.ask.now)) c.args.self.now.recorder.disk c.args.self.now.recorder.disk refl
+pub returns-in_default-2-clause-changes : goal.returns-in_default-2-clause-changes
+returns-in_default-2-clause-changes g c h = changes_none g.D.Disk.moment g.D.Disk.seen g.D.Disk.past (IsWritten (fresh_by c.args.self.now.table c.args.ask.now) (freed_by c.args.self.now.table c.args.now c.args.ask.now)) c.args.self.now.recorder.disk c.args.self.now.recorder.disk refl
 
-pub returns-in-None-clause-put : goal.returns-in-None-clause-put
-returns-in-None-clause-put g c h =
+pub returns-in_default-2-clause-put : goal.returns-in_default-2-clause-put
+returns-in_default-2-clause-put g c h =
     let t = c.args.self.now.table in
     let disk = c.args.self.now.recorder.disk in
     let nothing = idle_frees t c.args.now c.args.ask.now c.in-None.ensures.0 in
