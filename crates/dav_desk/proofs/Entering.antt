@@ -86,7 +86,7 @@ freed_begin t now deed freed sound is =
     subst (λ (l : List ℕ). All (λ f. 2 ≤ f) l) (sym is) (λ i d lt. released_begin t sound now deed (get_or (released_of t now deed) i d) (All-contains_itself (released_of t now deed) i d lt))
 
 -- the text of a record is not empty
-text_wide : (r : Record) → text_of r ≢ []
+pub text_wide : (r : Record) → text_of r ≢ []
 text_wide (records.Forgot path locks below) = λ is. cc is
 text_wide (records.Closed path body) = λ is. cc is
 text_wide (records.Sent path file seen) = λ is. cc is

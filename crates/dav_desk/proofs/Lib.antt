@@ -3,3 +3,5 @@ pub mod Entering
 pub mod Asking
 pub mod Going
 pub mod Carrying
+pub mod Changing
+pub mod Keeping

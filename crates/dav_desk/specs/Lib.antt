@@ -3,3 +3,4 @@ pub mod Verdict
 pub mod Ended
 pub mod Working
 pub mod Entry
+pub mod Changed

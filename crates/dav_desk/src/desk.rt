@@ -62,6 +62,8 @@ pub struct Desk<D> {
 
 impl<D: Disk> Desk<D> {
     ghost use Rattle.dav_desk.specs.Ended.{IsAsked};
+    ghost use Rattle.dav_cache.specs.Files.{ChangesOnly};
+    ghost use Rattle.dav_desk.specs.Changed.{ChangesAsked, IsPut};
     ghost use Rattle.dav_desk.specs.Working.{IsReadied, IsWorking, IsStopped, AreGiven, HasBytes, HasSum};
 
     /// Starts a desk over the index of a disk for a URL. Where nothing stands there an index is made. Answers `NotACache` with
@@ -80,6 +82,7 @@ impl<D: Disk> Desk<D> {
         ensures fresh { IfOk result (λ desk. (desk.table ≡ started desk.table.index) × IsSound desk.table × (desk.recorder.trace.steps.items ≡ [])
             × (desk.recorder.under ≡ None) × (desk.recorder.dead ≡ None)) }
         ensures readied { IfOk result (λ desk. IsReadied D.honest D.moment D.seen D.past desk) }
+        ensures changes { D.honest → MatchResult result (λ desk. ChangesOnly D.moment D.seen D.past (λ f. f ≡ 0) disk desk.recorder.disk) (λ both. ChangesOnly D.moment D.seen D.past (λ f. f ≡ 0) disk both.0) }
         ensures faults { MatchResult result (λ desk. D.faults disk ≤ D.faults desk.recorder.disk) (λ both. D.faults disk ≤ D.faults both.0) }
     {
         match Recorder::start(alloc, disk, url) {
@@ -110,6 +113,8 @@ impl<D: Disk> Desk<D> {
         ensures sum { IfOk result HasSum }
         ensures sound { IsSound self.new.table }
         ensures readied { IsReadied D.honest D.moment D.seen D.past self.new }
+        ensures changes { D.honest → ChangesAsked D.moment D.seen D.past now ask.now self.old self.new }
+        ensures put { D.honest → OnOk result (IsPut D.moment D.seen D.past now ask.now self.old self.new) }
         ensures faults { D.faults self.old.recorder.disk ≤ D.faults self.new.recorder.disk }
     {
         let _ = self.table.index();
@@ -139,6 +144,8 @@ impl<D: Disk> Desk<D> {
         ensures sum { IfOk result HasSum }
         ensures sound { IsSound self.new.table }
         ensures readied { IsReadied D.honest D.moment D.seen D.past self.new }
+        ensures changes { D.honest → ChangesAsked D.moment D.seen D.past planned.made.step.now ask.now self.old self.new }
+        ensures put { D.honest → OnOk result (IsPut D.moment D.seen D.past planned.made.step.now ask.now self.old self.new) }
         ensures faults { D.faults self.old.recorder.disk ≤ D.faults self.new.recorder.disk }
     {
         let Planned { made, change } = planned;

@@ -10,7 +10,9 @@ ghost use Rattle.dav_deeds.specs.Legal.{new_body, table_after};
 ghost use Rattle.dav_deeds.specs.declared.answer.Flight.{Flight};
 ghost use Rattle.dav_deeds.specs.declared.answer.Told.TheVariants.{Took};
 ghost use Rattle.dav_deeds.specs.declared.fault.DeskFault.TheVariants.{Disk as DiskFault, Memory as MemoryFault};
+ghost use Rattle.dav_cache.specs.Files.{ChangesOnly, AreEmpty, IsStored};
 ghost use Rattle.dav_cache.specs.Planned.{kept_table};
+ghost use Rattle.dav_cache.specs.Stands.{IsWritten};
 ghost use Rattle.dav_cache.specs.Survives.{IsLive, IsLeft};
 ghost use Rattle.dav_desk.specs.Entry.{bytes_in, file_in, IsEntry, IsMissing};
 
@@ -62,6 +64,7 @@ pub(crate) fn told_bytes<D: Disk>(
     ensures trace { (recorder.new.trace ≡ recorder.old.trace) × (recorder.new.under ≡ recorder.old.under) }
     ensures ready { D.honest → IsReady (journal_end recorder.old.journal) (D.seen recorder.old.disk 0) (D.past recorder.old.disk (D.moment recorder.old.disk) 0)
         → IsReady (journal_end recorder.new.journal) (D.seen recorder.new.disk 0) (D.past recorder.new.disk (D.moment recorder.new.disk) 0) }
+    ensures changes { D.honest → ChangesOnly D.moment D.seen D.past (λ _. ⊥) recorder.old.disk recorder.new.disk }
     ensures faults { D.faults recorder.old.disk ≤ D.faults recorder.new.disk }
 {
     let Some(told) = told else {
@@ -101,6 +104,9 @@ pub(crate) fn enter<D: Disk>(
         × (recorder.new.trace.steps.items ≡ recorder.old.trace.steps.items)
         × ((recorder.new.under ≡ recorder.old.under) ⊎ (recorder.new.under ≡ Some (record step { moment = D.moment recorder.new.disk })))) }
     ensures ready { D.honest → OnOk result (IsReady (journal_end recorder.new.journal) (D.seen recorder.new.disk 0) (D.past recorder.new.disk (D.moment recorder.new.disk) 0)) }
+    ensures changes { D.honest → ChangesOnly D.moment D.seen D.past (IsWritten (file_in (new_body step.deed)) freed.now) recorder.old.disk recorder.new.disk }
+    ensures stored { D.honest → OnOk result (row.now ≢ [] → IsStored (file_in (new_body step.deed)) bytes.now freed.now (D.seen recorder.new.disk) (D.past recorder.new.disk (D.moment recorder.new.disk))) }
+    ensures emptied { D.honest → OnOk result (AreEmpty freed.now (D.seen recorder.new.disk) (D.past recorder.new.disk (D.moment recorder.new.disk))) }
     ensures faults { D.faults recorder.old.disk ≤ D.faults recorder.new.disk }
 {
     if row.is_empty() {

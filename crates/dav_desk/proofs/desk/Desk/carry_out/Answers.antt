@@ -17,6 +17,10 @@ use Rattle.dav_desk.specs.Working.{IsWorking, HasBytes, HasSum}
 use Rattle.dav_desk.proofs.Carrying.{Base, Read, Stood, starved_asked, starved_readied, starved_faults, starved_works, starved_lives_on, missing_asked, missing_readied, read_faults, read_works, read_left, read_entry, read_named, lives, lives_read, entered_faults, failed_asked, failed_readied, failed_not_alive, went_asked, went_readied, went_works, went_lives_on}
 use Rattle.dav_desk.proofs.Entering.{row_fits, new_begins, freed_begin}
 use Rattle.dav_desk.proofs.Going.{records_reserved, answer_has, job_bytes, job_sum}
+use Rattle.dav_cache.proofs.Filing.{changes_none}
+use Rattle.dav_cache.specs.Stands.{IsWritten}
+use Rattle.dav_desk.specs.Changed.{fresh_by, freed_by}
+use Rattle.dav_desk.proofs.Changing.{changes_asked, changes_looked, stored_asked, empty_asked, on_ok_any}
 use Rattle.dav_desk.proofs.desk.Desk.carry_out.Goals as goal
 
 pub returns-in_err-reserve-clause-asked : goal.returns-in_err-reserve-clause-asked
@@ -267,3 +271,36 @@ returns-clause-faults g c =
     let k : Read g.D.Disk.honest g.D.Disk.moment g.D.Disk.seen g.D.Disk.past g.D.Disk.faults c.reserve.new.self c.told_bytes.new.recorder =
     record { trace = c.told_bytes.ensures.trace; more = c.told_bytes.ensures.faults; ready = c.told_bytes.ensures.ready; live = c.told_bytes.ensures.live } in
     entered_faults g.D.Disk.honest g.D.Disk.moment g.D.Disk.seen g.D.Disk.past g.D.Disk.faults c.args.self.now c.args.ask.now c.args.planned c.args.row.now c.reserve.new.self b c.told_bytes.new.recorder k c.enter.new.recorder c.enter.ensures.faults
+
+pub returns-in_err-reserve-clause-changes : goal.returns-in_err-reserve-clause-changes
+returns-in_err-reserve-clause-changes g c h =
+    changes_none g.D.Disk.moment g.D.Disk.seen g.D.Disk.past (IsWritten (fresh_by c.args.self.now.table c.args.ask.now) (freed_by c.args.self.now.table c.args.planned.made.step.now c.args.ask.now)) c.args.self.now.recorder.disk c.reserve.new.self.disk (ap (λ (x : Recorder g.row.D.Denot). x.disk) c.reserve.ensures.rest)
+
+pub returns-in_err-reserve-clause-put : goal.returns-in_err-reserve-clause-put
+returns-in_err-reserve-clause-put g c =
+    let p = err_from_is_err_and c.from_residual.result c.from_residual.ensures.1 in
+    rw p.1 (λ h. tt)
+
+pub returns-in-Err-clause-changes : goal.returns-in-Err-clause-changes
+returns-in-Err-clause-changes g c h =
+    changes_looked g.D.Disk.moment g.D.Disk.seen g.D.Disk.past (IsWritten (fresh_by c.args.self.now.table c.args.ask.now) (freed_by c.args.self.now.table c.args.planned.made.step.now c.args.ask.now)) c.args.self.now.recorder.disk c.reserve.new.self.disk c.told_bytes.new.recorder.disk (ap (λ (x : Recorder g.row.D.Denot). x.disk) c.reserve.ensures.rest) (c.told_bytes.ensures.changes h)
+
+pub returns-in-Err-enter-clause-changes : goal.returns-in-Err-enter-clause-changes
+returns-in-Err-enter-clause-changes g c h =
+    changes_asked c.args.self.now.table c.args.planned.made.step.now c.args.ask.now c.args.planned.made.step.deed c.bytes_of.result.now c.as_slice.result.now (ap (λ (s : Step). s.deed) c.requires.plan.step) (c.as_slice.ensures.value ∙ c.requires.plan.released) g.D.Disk.moment g.D.Disk.seen g.D.Disk.past
+    c.args.self.now.recorder.disk c.reserve.new.self.disk c.told_bytes.new.recorder.disk c.enter.new.recorder.disk (ap (λ (x : Recorder g.row.D.Denot). x.disk) c.reserve.ensures.rest) (c.told_bytes.ensures.changes h) (c.enter.ensures.changes h)
+
+pub returns-clause-changes : goal.returns-clause-changes
+returns-clause-changes g c h =
+    changes_asked c.args.self.now.table c.args.planned.made.step.now c.args.ask.now c.args.planned.made.step.deed c.bytes_of.result.now c.as_slice.result.now (ap (λ (s : Step). s.deed) c.requires.plan.step) (c.as_slice.ensures.value ∙ c.requires.plan.released) g.D.Disk.moment g.D.Disk.seen g.D.Disk.past
+    c.args.self.now.recorder.disk c.reserve.new.self.disk c.told_bytes.new.recorder.disk c.enter.new.recorder.disk (ap (λ (x : Recorder g.row.D.Denot). x.disk) c.reserve.ensures.rest) (c.told_bytes.ensures.changes h) (c.enter.ensures.changes h)
+
+pub returns-clause-put : goal.returns-clause-put
+returns-clause-put g c h =
+    let disk = c.enter.new.recorder.disk in
+    on_ok_any c.with_bytes.result (record {
+      stored = stored_asked c.args.self.now.table c.args.planned.made.step.now c.args.ask.now c.args.planned.made.step.deed c.bytes_of.result.now c.as_slice.result.now (ap (λ (s : Step). s.deed) c.requires.plan.step) (c.as_slice.ensures.value ∙ c.requires.plan.released)
+          c.args.row.now (g.D.Disk.seen disk) (g.D.Disk.past disk (g.D.Disk.moment disk)) c.bytes_of.ensures c.requires.plan.row_is (c.in-Ok-enter.ensures.stored h);
+      emptied = empty_asked c.args.self.now.table c.args.planned.made.step.now c.args.ask.now c.args.planned.made.step.deed c.bytes_of.result.now c.as_slice.result.now (ap (λ (s : Step). s.deed) c.requires.plan.step) (c.as_slice.ensures.value ∙ c.requires.plan.released)
+          (g.D.Disk.seen disk) (g.D.Disk.past disk (g.D.Disk.moment disk)) (c.in-Ok-enter.ensures.emptied h);
+    })
