@@ -1,6 +1,7 @@
 pub mod ReadingLemmas
 pub mod PropsLemmas
 pub mod PassLemmas
+pub mod WeightLemmas
 pub mod TreeLemmas
 pub mod GatheredLemmas
 pub mod OpenedLemmas
@@ -10,3 +11,6 @@ pub mod WalkerLemmas
 pub mod Timing
 pub mod PlaceLemmas
 pub mod SoFarLemmas
+pub mod RootLemmas
+pub mod LimitLemmas
+pub mod FitLemmas

@@ -57,7 +57,7 @@ child_told true i p ns name inside xs ys later e b h =
     ∙ ap (λ z. record { response = record { items = whole 2 ns name inside; index = i }; past = p } ∷ z) (h (i + 1))
 child_told false i p ns name inside xs ys later e b h =
     let last : Timed = record { event = End 2; past = p } in
-    let g = gives_child false i ns name inside Nil e (λ k. record { leads = ap (between Multistatus) (omega arith); given = refl }) in
+    let g = gives_child false i ns name inside Nil e (λ k. record { leads = ap (between Multistatus) (omega arith); given = refl; heavy = refl }) in
     let es : bare (xs ++ (last ∷ [])) ≡ events 2 (Element ns name inside Nil) =
     bare-append xs (last ∷ []) ∙ ap (λ z. z ++ (End 2 ∷ [])) b ∙ ap (λ z. Start 2 ns name ∷ z) (sym (append-nil (events 3 inside ++ (End 2 ∷ [])))) in
     ap (told (between Multistatus i)) (sym (append_assoc xs (last ∷ []) ys))

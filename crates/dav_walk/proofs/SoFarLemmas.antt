@@ -207,24 +207,24 @@ end_root g [] = refl
 end_root g (o ∷ []) = refl
 end_root g (o ∷ p ∷ os) = refl
 
-next_root : (g : Gathering) (e : Event) → (next g e).root ≡ g.root
+pub next_root : (g : Gathering) (e : Event) → (next g e).root ≡ g.root
 next_root g (Start d ns name) = start_root (is_kept g d ns name) g d ns name
 next_root g (Char b) = byte_root g g.opened b
 next_root g (End d) = end_root g g.opened
 
-after_root : (g : Gathering) (es : List Event) → (after g es).root ≡ g.root
+pub after_root : (g : Gathering) (es : List Event) → (after g es).root ≡ g.root
 after_root g [] = refl
 after_root g (e ∷ es) = after_root (next g e) es ∙ next_root g e
 
 -- one of some responses in a row
-record IsAt (first : ℕ) (all : List (List Item)) (a : List Response) (r : Response) : Type 0 where
-  before : List (List Item)
-  back : List (List Item)
-  split : all ≡ before ++ (r.items ∷ back)
-  index : r.index ≡ first + length before
-  lent : a ≡ numbered first before
+pub record IsAt (first : ℕ) (all : List (List Item)) (a : List Response) (r : Response) : Type 0 where
+  pub before : List (List Item)
+  pub back : List (List Item)
+  pub split : all ≡ before ++ (r.items ∷ back)
+  pub index : r.index ≡ first + length before
+  pub lent : a ≡ numbered first before
 
-is_at : (first : ℕ) (all : List (List Item)) (a : List Response) (r : Response) (rest : List Response) → numbered first all ≡ a ++ (r ∷ rest) → IsAt first all a r
+pub is_at : (first : ℕ) (all : List (List Item)) (a : List Response) (r : Response) (rest : List Response) → numbered first all ≡ a ++ (r ∷ rest) → IsAt first all a r
 is_at first [] [] r rest e = absurd cc
 is_at first [] (y ∷ a) r rest e = absurd cc
 is_at first (x ∷ xs) [] r rest e =

@@ -1,13 +1,14 @@
 -- The events of a tree give its responses.
 use Rattle.std.proofs.Common.{◌≡◌, ℕ, ◌+◌, ◌<◌, Bool, true, false, List, [], ◌∷◌, ◌++◌, refl, ap, sym, ◌∙◌, length, append_assoc, append-nil, subst, arith}
-use Rattle.std.specs.Prelude.{◌&&◌, cond, codes, if◌then◌else◌}
+use Rattle.std.specs.Prelude.{◌&&◌, map, cond, codes, if◌then◌else◌}
 use Rattle.dav_doc.specs.Document.{Forest, Nil, Chars, Element, Event, Start, Char, End, events}
 use Rattle.dav_walk.specs.declared.root.Root.{Root}
 use Rattle.dav_walk.specs.declared.root.Root.TheVariants.{Multistatus, Prop}
-use Rattle.dav_walk.specs.Tree.{Item, is_dav, direct, items, whole, among, responses}
+use Rattle.dav_walk.specs.Tree.{Item, is_dav, direct, items, weight, whole, among, responses}
 use Rattle.dav_walk.specs.Gathering.{Opened, Gathering, between, begins, with_start, with_text, owed_after, next, ended}
 use Rattle.dav_walk.specs.Whole.{after, given, numbered}
 use Rattle.dav_walk.proofs.PropsLemmas.{differs}
+use Rattle.dav_walk.proofs.WeightLemmas.{adds, adds-append, adds_tree, helds, helds-append}
 
 pub after-append : (g : Gathering) (es later : List Event) → after g (es ++ later) ≡ after (after g es) later
 after-append g [] later = refl
@@ -29,12 +30,14 @@ pub record Gathered (root : Root) (index : ℕ) (es : List Event) (xs : List Ite
   pub owes : ℕ
   pub leads : after (within root index xs os held owed) es ≡ within root index ys ps holds owes
   pub none : given (within root index xs os held owed) es ≡ []
+  pub sum : holds ≡ held + adds es
+  pub light : helds (within root index xs os held owed) es ≡ []
 
 abbrev pub Gathers : Root → ℕ → List Event → List Item → List Opened → List Item → List Opened → Type 0
 Gathers root index es xs os ys ps = (held owed : ℕ) → Gathered root index es xs os held owed ys ps
 
 gathers_none : (root : Root) (index : ℕ) (xs : List Item) (os : List Opened) → Gathers root index [] xs os xs os
-gathers_none root index xs os = λ held owed. record { holds = held; owes = owed; leads = refl; none = refl }
+gathers_none root index xs os = λ held owed. record { holds = held; owes = owed; leads = refl; none = refl; sum = omega arith; light = refl }
 
 gathers_then : (root : Root) (index : ℕ) (es later : List Event) (xs ys zs : List Item) (os ps qs : List Opened)
     → Gathers root index es xs os ys ps → Gathers root index later ys ps zs qs → Gathers root index (es ++ later) xs os zs qs
@@ -50,25 +53,31 @@ gathers_then root index es later xs ys zs os ps qs f g = λ held owed.
           ∙ ap (λ z. z ++ given (after (within root index xs os held owed) es) later) a.none
           ∙ ap (λ h. given h later) a.leads
           ∙ b.none;
+      sum = (let p = a.sum in let q = b.sum in omega (arith, adds-append es later));
+      light =
+          helds-append (within root index xs os held owed) es later
+          ∙ ap (λ z. z ++ helds (after (within root index xs os held owed) es) later) a.light
+          ∙ ap (λ h. helds h later) a.leads
+          ∙ b.light;
     }
 
 gathers_start : (root : Root) (index d : ℕ) (ns name : List ℕ) (xs : List Item) (o : Opened) (os : List Opened)
     → Gathers root index (Start d ns name ∷ []) xs (o ∷ os) (xs ++ (record { depth = d; ns = ns; name = name; text = [] } ∷ [])) (record { place = length xs; text = [] } ∷ o ∷ os)
-gathers_start root index d ns name xs o os = λ held owed. record { holds = held + (length ns + length name); owes = owed; leads = refl; none = refl }
+gathers_start root index d ns name xs o os = λ held owed. record { holds = held + (length ns + length name); owes = owed; leads = refl; none = refl; sum = omega arith; light = refl }
 
 gathers_byte : (root : Root) (index b : ℕ) (xs : List Item) (o : Opened) (os : List Opened)
     → Gathers root index (Char b ∷ []) xs (o ∷ os) xs (record { place = o.place; text = o.text ++ (b ∷ []) } ∷ os)
-gathers_byte root index b xs o os = λ held owed. record { holds = held + 1; owes = owed_after owed b; leads = refl; none = refl }
+gathers_byte root index b xs o os = λ held owed. record { holds = held + 1; owes = owed_after owed b; leads = refl; none = refl; sum = omega arith; light = refl }
 
 gathers_end : (root : Root) (index d : ℕ) (xs : List Item) (o p : Opened) (os : List Opened)
     → Gathers root index (End d ∷ []) xs (o ∷ p ∷ os) (with_text o.place o.text xs) (p ∷ os)
-gathers_end root index d xs o p os = λ held owed. record { holds = held; owes = owed; leads = refl; none = refl }
+gathers_end root index d xs o p os = λ held owed. record { holds = held; owes = owed; leads = refl; none = refl; sum = omega arith; light = refl }
 
 gathers_as : (root : Root) (index : ℕ) (es : List Event) (xs ys zs : List Item) (os ps qs : List Opened) → ys ≡ zs → ps ≡ qs
     → Gathers root index es xs os ys ps → Gathers root index es xs os zs qs
 gathers_as root index es xs ys zs os ps qs e f g = λ held owed.
     let a = g held owed in
-    record { holds = a.holds; owes = a.owes; leads = a.leads ∙ ap (λ z. within root index z ps a.holds a.owes) e ∙ ap (λ z. within root index zs z a.holds a.owes) f; none = a.none }
+    record { holds = a.holds; owes = a.owes; leads = a.leads ∙ ap (λ z. within root index z ps a.holds a.owes) e ∙ ap (λ z. within root index zs z a.holds a.owes) f; none = a.none; sum = a.sum; light = a.light }
 
 -- the text of the element behind these items
 with_text_at : (xs ys : List Item) (x : Item) (text : List ℕ)
@@ -108,9 +117,14 @@ gathers_all root index d (Element ns name inside f) xs o os =
 pub record Gives (root : Root) (index : ℕ) (es : List Event) (xs : List (List Item)) : Type 0 where
   pub leads : after (between root index) es ≡ between root (index + length xs)
   pub given : given (between root index) es ≡ numbered index xs
+  pub heavy : helds (between root index) es ≡ map weight xs
 
 gives_none : (root : Root) (index : ℕ) → Gives root index [] []
-gives_none root index = record { leads = ap (between root) (omega arith); given = refl }
+gives_none root index = record { leads = ap (between root) (omega arith); given = refl; heavy = refl }
+
+weights-append : (xs ys : List (List Item)) → map weight (xs ++ ys) ≡ map weight xs ++ map weight ys
+weights-append [] ys = refl
+weights-append (x ∷ xs) ys = ap (λ z. weight x ∷ z) (weights-append xs ys)
 
 numbered-append : (index : ℕ) (xs ys : List (List Item)) → numbered index (xs ++ ys) ≡ numbered index xs ++ numbered (index + length xs) ys
 numbered-append index [] ys = ap (λ i. numbered i ys) (omega arith)
@@ -131,13 +145,19 @@ gives_then root index es later xs ys f g = record {
       ∙ ap (λ h. numbered index xs ++ given h later) f.leads
       ∙ ap (λ z. numbered index xs ++ z) g.given
       ∙ sym (numbered-append index xs ys);
+  heavy =
+      helds-append (between root index) es later
+      ∙ ap (λ z. z ++ helds (after (between root index) es) later) f.heavy
+      ∙ ap (λ h. map weight xs ++ helds h later) f.leads
+      ∙ ap (λ z. map weight xs ++ z) g.heavy
+      ∙ sym (weights-append xs ys);
 }
 
 -- a response: its start, what it holds and its end
 gives_whole : (root : Root) (index d e held owed : ℕ) (ns name : List ℕ) (inside : Forest)
     → next (between root index) (Start d ns name) ≡ within root index (record { depth = d; ns = ns; name = name; text = [] } ∷ []) (record { place = 0; text = [] } ∷ []) held owed
-    → Gives root index (Start d ns name ∷ (events (d + 1) inside ++ (End e ∷ []))) (whole d ns name inside ∷ [])
-gives_whole root index d e held owed ns name inside is =
+    → held ≡ length ns + length name → Gives root index (Start d ns name ∷ (events (d + 1) inside ++ (End e ∷ []))) (whole d ns name inside ∷ [])
+gives_whole root index d e held owed ns name inside is long =
     let x : Item = record { depth = d; ns = ns; name = name; text = [] } in
     let p : Opened = record { place = 0; text = [] } in
     let q : Opened = record { place = 0; text = direct inside } in
@@ -153,6 +173,12 @@ gives_whole root index d e held owed ns name inside is =
           ∙ given-append begun (events (d + 1) inside) (End e ∷ [])
           ∙ ap (λ z. z ++ given (after begun (events (d + 1) inside)) (End e ∷ [])) a.none
           ∙ ap (λ g. given g (End e ∷ [])) a.leads;
+      heavy =
+          ap (λ g. helds g (events (d + 1) inside ++ (End e ∷ []))) is
+          ∙ helds-append begun (events (d + 1) inside) (End e ∷ [])
+          ∙ ap (λ z. z ++ helds (after begun (events (d + 1) inside)) (End e ∷ [])) a.light
+          ∙ ap (λ g. helds g (End e ∷ [])) a.leads
+          ∙ ap (λ n. n ∷ []) (let p = a.sum in let q = adds_tree (d + 1) inside in omega arith);
     }
 
 -- `index + 0`
@@ -167,13 +193,14 @@ pub quiet_start : (root : Root) (index d : ℕ) (ns name : List ℕ) → begins 
 quiet_start root index d ns name e = record {
   leads = ap (λ (t : Bool). if t then with_start (between root index) d ns name else between root index) e ∙ ap (between root) (omega arith);
   given = refl;
+  heavy = refl;
 }
 
 quiet_byte : (root : Root) (index b : ℕ) → Gives root index (Char b ∷ []) []
-quiet_byte root index b = record { leads = ap (between root) (omega arith); given = refl }
+quiet_byte root index b = record { leads = ap (between root) (omega arith); given = refl; heavy = refl }
 
 quiet_end : (root : Root) (index d : ℕ) → Gives root index (End d ∷ []) []
-quiet_end root index d = record { leads = ap (between root) (omega arith); given = refl }
+quiet_end root index d = record { leads = ap (between root) (omega arith); given = refl; heavy = refl }
 
 -- an element that begins no response, and what follows it
 gives_around : (root : Root) (index d : ℕ) (ns name : List ℕ) (inside f : Forest) (xs ys : List (List Item)) → begins root d ns name ≡ false
@@ -204,7 +231,7 @@ pub gives_child : (is_response : Bool) (index : ℕ) (ns name : List ℕ) (insid
 gives_child true index ns name inside f e later =
     gives_then Multistatus index (Start 2 ns name ∷ (events 3 inside ++ (End 2 ∷ []))) (events 2 f) (whole 2 ns name inside ∷ []) (among f)
     (gives_whole Multistatus index 2 2 (0 + (length ns + length name)) 0 ns name inside
-    (ap (λ (t : Bool). if t then with_start (between Multistatus index) 2 ns name else between Multistatus index) e))
+    (ap (λ (t : Bool). if t then with_start (between Multistatus index) 2 ns name else between Multistatus index) e) (omega arith))
     (later (index + 1))
 gives_child false index ns name inside f e later =
     gives_around Multistatus index 2 ns name inside f [] (among f) e (gives_skipped index 3 inside (omega arith)) (gives_from Multistatus index (events 2 f) (among f) (later index))
@@ -222,4 +249,4 @@ gives_responses Multistatus ns name inside =
     (gives_around Multistatus 0 1 ns name inside Nil (among inside) [] refl (gives_among 0 inside) (gives_none Multistatus (0 + length (among inside))))
 gives_responses Prop ns name inside =
     gives_then Prop 0 (Start 1 ns name ∷ (events 2 inside ++ (End 1 ∷ []))) [] (whole 1 ns name inside ∷ []) []
-    (gives_whole Prop 0 1 1 (0 + (length ns + length name)) 0 ns name inside refl) (gives_none Prop 1)
+    (gives_whole Prop 0 1 1 (0 + (length ns + length name)) 0 ns name inside refl (omega arith)) (gives_none Prop 1)

@@ -1,5 +1,5 @@
 -- The responses of a document (RFC 4918, section 14.24), each as the list of its elements in document order.
-use Rattle.std.specs.Prelude.{ℕ, ◌+◌, Bool, ◌&&◌, List, [], ◌∷◌, ◌++◌, bytes_eq, codes, if◌then◌else◌}
+use Rattle.std.specs.Prelude.{ℕ, ◌+◌, Bool, ◌&&◌, List, [], ◌∷◌, ◌++◌, length, bytes_eq, codes, if◌then◌else◌}
 use Rattle.dav_doc.specs.Document.{Forest, Nil, Chars, Element}
 use Rattle.dav_walk.specs.declared.root.Root.{Root}
 use Rattle.dav_walk.specs.declared.root.Root.TheVariants.{Multistatus, Prop}
@@ -31,6 +31,11 @@ items d (Element ns name inside after) =
 -- an element and all below it
 abbrev pub whole : ℕ → List ℕ → List ℕ → Forest → List Item
 whole d ns name inside = record { depth = d; ns = ns; name = name; text = direct inside } ∷ items (d + 1) inside
+
+-- the bytes of the namespaces, names and texts of some elements
+abbrev pub weight : List Item → ℕ
+weight [] = 0
+weight (x ∷ xs) = ((length x.ns + length x.name) + length x.text) + weight xs
 
 -- the responses among the children of a root
 abbrev pub among : Forest → List (List Item)

@@ -1,10 +1,12 @@
 //! Laws of the walk against the tree of a document. Each function is a law: its contract is what it says, and its body is empty.
 
-ghost use Rattle.std.specs.Prelude.{◌≡◌, ℕ, List, ◌+◌, ◌++◌, length};
+ghost use Rattle.std.specs.Prelude.{◌≡◌, ℕ, List, [], ◌+◌, ◌++◌, length, Some};
 ghost use Rattle.dav_doc.specs.Document.{Forest, Element, Nil, IsDocument, events};
+ghost use Rattle.dav_doc.specs.Machine.{State, Begin, run};
+ghost use Rattle.dav_text.specs.declared.which.Which.{Which};
 ghost use Rattle.dav_xml.specs.declared.fault.XmlFault.{XmlFault};
 ghost use Rattle.dav_walk.specs.declared.fault.WalkFault.{WalkFault};
-ghost use Rattle.dav_walk.specs.declared.fault.WalkFault.TheVariants.{NoHref, BadStatus};
+ghost use Rattle.dav_walk.specs.declared.fault.WalkFault.TheVariants.{NoHref, BadStatus, WrongRoot, Limit};
 ghost use Rattle.dav_walk.specs.declared.root.Root.{Root};
 ghost use Rattle.dav_walk.specs.Tree.{responses};
 ghost use Rattle.dav_walk.specs.Gathering.{Gathering, Goes, Fails, between, walk};
@@ -13,7 +15,7 @@ ghost use Rattle.dav_walk.specs.Lending.{Response};
 ghost use Rattle.dav_walk.specs.Walking.{GathersTo, Refuses};
 ghost use Rattle.dav_walk.specs.WalkerView.{Walking, HasWalked, HasStopped};
 ghost use Rattle.dav_walk.specs.Places.{placed, all_placed, ended_in};
-ghost use Rattle.dav_walk.specs.SoFar.{AreFirst, LacksHref, LacksStatus};
+ghost use Rattle.dav_walk.specs.SoFar.{AreFirst, LacksHref, LacksStatus, HasOtherRoot, HasLarge, AllFit};
 
 /// The events of a tree give its responses, in document order.
 pub fn all_given()
@@ -62,4 +64,28 @@ pub fn unfit_responses()
         → IsDocument tree (text ++ t) → LacksHref root tree index lent }
     ensures status { (root : Root) (text t : List ℕ) (lent : List Response) (index : ℕ) (tree : Forest) → GathersTo root text lent (Fails (BadStatus index))
         → IsDocument tree (text ++ t) → LacksStatus root tree index lent }
+{}
+
+/// A walk that ends for its root does so on documents with another root than the one that is asked for, and has lent nothing. Of such a
+/// document it has no other fault of a response, and while it goes on no tag of the document has ended in the bytes so far.
+pub fn other_roots()
+    ensures wrong { (root : Root) (text t : List ℕ) (lent : List Response) (tree : Forest) → GathersTo root text lent (Fails WrongRoot)
+        → IsDocument tree (text ++ t) → HasOtherRoot root tree × (lent ≡ []) }
+    ensures alone { (root : Root) (text t : List ℕ) (lent : List Response) (fault : WalkFault) (tree : Forest) → GathersTo root text lent (Fails fault)
+        → IsDocument tree (text ++ t) → HasOtherRoot root tree → fault ≡ WrongRoot }
+    ensures going { (walker : Walking) (text t : List ℕ) (lent : List Response) (tree : Forest) → HasWalked walker text lent
+        → IsDocument tree (text ++ t) → HasOtherRoot walker.root tree → (st : State) × (run text Begin ≡ Some (record { state = st; events = [] })) }
+{}
+
+/// A walk that ends for the size of a response does so while that response comes, of every document that goes on with the bytes so far:
+/// all before it were lent, and as a whole it has more than 4,096 elements, or more than 1,048,576 bytes of namespaces, names and texts.
+pub fn large_responses()
+    ensures { (root : Root) (text t : List ℕ) (lent : List Response) (which : Which) (tree : Forest) → GathersTo root text lent (Fails (Limit which))
+        → IsDocument tree (text ++ t) → HasLarge root tree lent which }
+{}
+
+/// Each response that a walk lends while it goes on has at most 4,096 elements; in a multistatus it has an `href`, and each `status` that
+/// counts is a status line.
+pub fn lent_fit()
+    ensures { (walker : Walking) (text : List ℕ) (lent : List Response) → HasWalked walker text lent → AllFit walker.root lent }
 {}

@@ -20,7 +20,8 @@ pub use fault::WalkFault;
 pub use found::Found;
 pub use handler::{Handler, Next};
 pub use laws::{
-    all_given, lent_are_first, lent_end_in_the_text, unfit_responses, walked_are_responses,
+    all_given, large_responses, lent_are_first, lent_end_in_the_text, lent_fit, other_roots,
+    unfit_responses, walked_are_responses,
 };
 pub use node::{Node, Span};
 pub use props::{Prop, Props};
