@@ -9,3 +9,6 @@ pub mod FeedLemmas
 pub mod ScanLemmas
 pub mod LawLemmas
 pub mod PieceLemmas
+pub mod NodeLemmas
+pub mod GatherLemmas
+pub mod TellingLemmas

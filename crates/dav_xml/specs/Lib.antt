@@ -6,3 +6,4 @@ pub mod Turn
 pub mod Read
 pub mod Parts
 pub mod Ending
+pub mod Nodes

@@ -2,10 +2,11 @@
 //!
 //! Which texts are documents, what their events are, and the machine that reads one byte by byte stand in `dav_doc`; what each byte
 //! does in a part of a document stands in `dav_markup`. Here the parts are joined: a scanner keeps a place in the document, the
-//! open elements, and the limits.
+//! open elements, and the limits. `Document` reads a text in one piece.
 #![tactic(auto)]
 
 mod content;
+mod document;
 mod end_tag;
 mod event;
 mod fault;
@@ -20,7 +21,8 @@ mod step;
 mod tests;
 mod turn;
 
+pub use document::{Document, Node};
 pub use event::Event;
 pub use fault::XmlFault;
-pub use laws::{bad_is_bad, read_goes_on, read_runs};
+pub use laws::{bad_is_bad, documents_have_no_fault, nodes_tell_trees, read_goes_on, read_runs};
 pub use scan::{Fed, Scan};
