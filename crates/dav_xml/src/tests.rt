@@ -1,4 +1,4 @@
-use crate::{Document, Event, Node, Scan, XmlFault};
+use crate::{Document, Event, Scan, XmlFault};
 use dav_text::{Memory, Which, decimal};
 use std::alloc::Global;
 
@@ -22,58 +22,6 @@ fn tell(told: &mut Vec<u8>, event: Event<'_>) -> Result<(), Memory> {
         }
     }
     Ok(())
-}
-
-/// The ends of the open elements that are at least this deep.
-fn tell_ends(told: &mut Vec<u8>, open: u32, least: u32) -> Result<(), Memory> {
-    let mut depth = open;
-    while depth > 0 && depth >= least {
-        tell(told, Event::End { depth })?;
-        depth -= 1;
-    }
-    Ok(())
-}
-
-/// The events of a document that was read as a whole.
-fn tell_nodes(told: &mut Vec<u8>, nodes: &[Node]) -> Result<(), Memory> {
-    let mut open = 0;
-    for node in nodes {
-        match node {
-            Node::Element { depth, ns, name } => {
-                tell_ends(told, open, *depth)?;
-                open = *depth;
-                let event = Event::Start {
-                    depth: *depth,
-                    ns: ns.as_slice(),
-                    name: name.as_slice(),
-                };
-                tell(told, event)?;
-            }
-            Node::Text { depth, bytes } => {
-                tell_ends(told, open, depth.saturating_add(1))?;
-                open = *depth;
-                tell(
-                    told,
-                    Event::Chars {
-                        bytes: bytes.as_slice(),
-                    },
-                )?;
-            }
-        }
-    }
-    tell_ends(told, open, 1)
-}
-
-/// The events of a text that is read as a whole, or its fault.
-fn read_whole(alloc: Global, text: &[u8]) -> Result<(Vec<u8>, Option<XmlFault>), Memory> {
-    let mut told = Vec::new(alloc);
-    match Document::read(alloc, text) {
-        Ok(document) => match tell_nodes(&mut told, document.nodes()) {
-            Ok(()) => Ok((told, None)),
-            Err(memory) => Err(memory),
-        },
-        Err(fault) => Ok((told, Some(fault))),
-    }
 }
 
 /// Feeds a whole piece, and tells its events.
@@ -133,12 +81,9 @@ fn a_document_gives_its_events_for_any_cut(rt: HostRuntime) -> Result<(), Memory
     let text =
         b"\xef\xbb\xbf<?xml version='1.0'?>\n<!-- - --><D:a xmlns:D=\"DAV:\" xmlns='&#x78;'>\xc3\xa9 &lt;\r\n<b c='\"'/>]<![CDATA[<]]]]><?p ?></D:a >\r";
     let want = b"<1 {DAV:}a>\xc3\xa9 <\n<2 {x}b></2>]<]]</1>";
-    let (whole, fault) = read_whole(alloc, text.as_slice())?;
-    assert!(rt; whole.as_slice() == want.as_slice());
-    assert_eq!(rt; fault, None);
     for cut in 0..=text.len() {
         let (told, fault) = read_cut(alloc, text.as_slice(), cut)?;
-        assert!(rt; told.as_slice() == whole.as_slice(), "at {cut}");
+        assert!(rt; told.as_slice() == want.as_slice(), "at {cut}");
         assert_eq!(rt; fault, None);
     }
     Ok(())
@@ -205,11 +150,9 @@ fn a_bad_byte_is_told_at_its_place_for_any_cut(rt: HostRuntime) -> Result<(), Me
         (b"<!D", 2),
     ];
     for (text, want) in table {
-        let (_, whole) = read_whole(alloc, text)?;
-        assert_eq!(rt; whole, Some(XmlFault::Bad { at: want }));
         for cut in 0..text.len() {
             let (_, fault) = read_cut(alloc, text, cut)?;
-            assert_eq!(rt; fault, whole, "{want} at {cut}");
+            assert_eq!(rt; fault, Some(XmlFault::Bad { at: want }), "{want} at {cut}");
         }
     }
     Ok(())
@@ -279,9 +222,6 @@ fn limits_are_met_at_their_byte(rt: HostRuntime) -> Result<(), Memory> {
         let fault = fault_of(alloc, &text)?;
         let want = want.map(|(which, at)| (XmlFault::Limit { which }, at));
         assert_eq!(rt; fault, want);
-        let (_, whole) = read_whole(alloc, &text)?;
-        let (limit, _) = want.unwrap_or((XmlFault::Cut, 0));
-        assert_eq!(rt; whole, Some(limit));
     }
     Ok(())
 }
@@ -308,10 +248,23 @@ fn a_text_that_is_cut_is_no_document_and_a_fault_stays(rt: HostRuntime) -> Resul
     for text in table {
         let (_, fault) = read_cut(alloc, text, 0)?;
         assert_eq!(rt; fault, Some(XmlFault::Cut));
-        let (_, whole) = read_whole(alloc, text)?;
-        assert_eq!(rt; whole, Some(XmlFault::Cut));
     }
     let bad = Some(XmlFault::Bad { at: 1 });
     assert_eq!(rt; bad_twice(alloc)?, (bad, bad, bad));
     Ok(())
+}
+
+/// How many nodes a whole document has.
+fn count_of(alloc: Global, text: &[u8]) -> Option<usize> {
+    match Document::read(alloc, text) {
+        Ok(document) => Some(document.nodes().len()),
+        Err(_) => None,
+    }
+}
+
+#[test]
+fn a_whole_document_has_its_nodes(rt: HostRuntime) {
+    let alloc = rt.alloc();
+    assert_eq!(rt; count_of(alloc, b"<a>x<b/>y</a>"), Some(4));
+    assert_eq!(rt; count_of(alloc, b"<a>x<b/>y"), None);
 }
