@@ -1,4 +1,4 @@
-use crate::{Document, Event, Scan, XmlFault};
+use crate::{Document, Event, Node, Scan, XmlFault};
 use dav_text::{Memory, Which, decimal};
 use std::alloc::Global;
 
@@ -267,4 +267,164 @@ fn a_whole_document_has_its_nodes(rt: HostRuntime) {
     let alloc = rt.alloc();
     assert_eq!(rt; count_of(alloc, b"<a>x<b/>y</a>"), Some(4));
     assert_eq!(rt; count_of(alloc, b"<a>x<b/>y"), None);
+}
+
+/// The ends of the open elements of at least this depth, the innermost first.
+fn tell_ends(told: &mut Vec<u8>, open: u32, least: u32) -> Result<(), Memory> {
+    for ended in 0..open {
+        let depth = open.saturating_sub(ended);
+        if depth >= least {
+            tell(told, Event::End { depth })?;
+        }
+    }
+    Ok(())
+}
+
+/// One node more, behind the ends of the elements that it is not in. Gives the depth of the element that is then the innermost.
+fn tell_node(told: &mut Vec<u8>, open: u32, node: &Node) -> Result<u32, Memory> {
+    match node {
+        Node::Element { depth, ns, name } => {
+            tell_ends(told, open, *depth)?;
+            let (ns, name) = (ns.as_slice(), name.as_slice());
+            tell(
+                told,
+                Event::Start {
+                    depth: *depth,
+                    ns,
+                    name,
+                },
+            )?;
+            Ok(*depth)
+        }
+        Node::Text { depth, bytes } => {
+            tell_ends(told, open, depth.saturating_add(1))?;
+            told.extend_from_slice(bytes.as_slice())?;
+            Ok(*depth)
+        }
+    }
+}
+
+/// The nodes of a document, told as a scanner's events are.
+fn tell_nodes(told: &mut Vec<u8>, nodes: &[Node]) -> Result<(), Memory> {
+    let mut open = 0;
+    for node in nodes {
+        open = tell_node(told, open, node)?;
+    }
+    tell_ends(told, open, 1)
+}
+
+/// Reads a text in one piece, tells its nodes, and gives its fault.
+fn tell_whole(told: &mut Vec<u8>, alloc: Global, text: &[u8]) -> Result<Option<XmlFault>, Memory> {
+    match Document::read(alloc, text) {
+        Ok(document) => match tell_nodes(told, document.nodes()) {
+            Ok(()) => Ok(None),
+            Err(memory) => Err(memory),
+        },
+        Err(fault) => Ok(Some(fault)),
+    }
+}
+
+/// The nodes of a text in one piece, and its fault.
+fn read_whole(alloc: Global, text: &[u8]) -> Result<(Vec<u8>, Option<XmlFault>), Memory> {
+    let mut told = Vec::new(alloc);
+    match tell_whole(&mut told, alloc, text) {
+        Ok(fault) => Ok((told, fault)),
+        Err(memory) => Err(memory),
+    }
+}
+
+/// Whether a text in two pieces has this fault or, where that is None, tells this.
+fn is_told(
+    alloc: Global,
+    text: &[u8],
+    cut: usize,
+    want: &[u8],
+    want_fault: Option<XmlFault>,
+) -> Result<bool, Memory> {
+    match read_cut(alloc, text, cut) {
+        Ok((told, fault)) => {
+            Ok(fault == want_fault && (fault.is_some() || told.as_slice() == want))
+        }
+        Err(memory) => Err(memory),
+    }
+}
+
+/// The first cut of a text where it does not have this fault or, where that is None, does not tell this.
+fn first_other(
+    alloc: Global,
+    text: &[u8],
+    want: &[u8],
+    want_fault: Option<XmlFault>,
+) -> Result<Option<usize>, Memory> {
+    for cut in 0..text.len().saturating_add(1) {
+        if !is_told(alloc, text, cut, want, want_fault)? {
+            return Ok(Some(cut));
+        }
+    }
+    Ok(None)
+}
+
+/// The fault of a text in one piece, and the first cut where the scanner finds something else in it.
+fn compare(alloc: Global, text: &[u8]) -> Result<(Option<XmlFault>, Option<usize>), Memory> {
+    match read_whole(alloc, text) {
+        Ok((want, fault)) => match first_other(alloc, text, &want, fault) {
+            Ok(other) => Ok((fault, other)),
+            Err(memory) => Err(memory),
+        },
+        Err(memory) => Err(memory),
+    }
+}
+
+#[test]
+fn a_scan_cut_anywhere_tells_what_a_whole_document_has(rt: HostRuntime) -> Result<(), Memory> {
+    let alloc = rt.alloc();
+    let table: [(&[u8], Option<XmlFault>); 20] = [
+        (
+            b"<?xml version=\"1.0\"?><D:multistatus xmlns:D=\"DAV:\"><D:response><D:href>/p/</D:href><x xmlns=\"u:\" xmlns:D=\"v:\">\n<D:y/></x><D:status>HTTP/1.1 200 OK</D:status></D:response></D:multistatus>",
+            None,
+        ),
+        (b"\xef\xbb\xbf<a/>", None),
+        (
+            b"<a xmlns='x'>b<c xmlns=''/>d<e f='\"' g=\"&lt;\"></e>\r\n\rh</a>\n",
+            None,
+        ),
+        (b"<a>&#38;&amp;b&lt;&gt;<c/>&quot;&apos;&#x20ac;</a>", None),
+        (b"<a><![CDATA[<b>\r\n]]]]><![CDATA[>]]></a><!-- -->", None),
+        (b"<?p q?><!-- --><a>b<!-- <c/> -->d<?p?>\re</a>", None),
+        (
+            b"<a><b><c><d/></c></b><b/>e<c>f</c><c><d>g</d></c></a>",
+            None,
+        ),
+        (
+            b"<\xc3\xa9>\xe2\x82\xac<b/>\xf0\x9f\x98\x80</\xc3\xa9 >",
+            None,
+        ),
+        (b"", Some(XmlFault::Cut)),
+        (b"<a>b<c/>", Some(XmlFault::Cut)),
+        (b"<a/><!-- ", Some(XmlFault::Cut)),
+        (b"<a>b</a", Some(XmlFault::Cut)),
+        (b"<a><b></a>", Some(XmlFault::Bad { at: 8 })),
+        (
+            b"<a xmlns:b='c'><b:d/></a><b/>",
+            Some(XmlFault::Bad { at: 26 }),
+        ),
+        (
+            b"<a><b xmlns:p='c'/><p:d/></a>",
+            Some(XmlFault::Bad { at: 23 }),
+        ),
+        (b"<a>b&nbsp;</a>", Some(XmlFault::Bad { at: 5 })),
+        (b"<!DOCTYPE a><a/>", Some(XmlFault::Bad { at: 2 })),
+        (b"<a>\xff</a>", Some(XmlFault::Bad { at: 3 })),
+        (b"<a>b]]></a>", Some(XmlFault::Bad { at: 6 })),
+        (b"<a>b</a>c", Some(XmlFault::Bad { at: 8 })),
+    ];
+    for (row, (text, want)) in table.into_iter().enumerate() {
+        assert_eq!(rt; compare(alloc, text)?, (want, None), "row {row}");
+    }
+    let deep = repeated(alloc, b"", b"<a>", 33, b"</a>")?;
+    let want = Some(XmlFault::Limit {
+        which: Which::Depth,
+    });
+    assert_eq!(rt; compare(alloc, &deep)?, (want, None));
+    Ok(())
 }
