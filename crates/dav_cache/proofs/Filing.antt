@@ -3,7 +3,7 @@ use Rattle.std.proofs.Common.{◌≡◌, inl, inr, ℕ, ◌+◌, ◌<◌, ◌≤
 use Rattle.std.proofs.lemmas.Bool.{cases_eq, cases_lt}
 use Rattle.std.proofs.lemmas.Grind.{get_or_default_zero}
 use Rattle.std.specs.List.{Contains}
-use Rattle.dav_disk.specs.Disk.{Doubt, Touches, OthersStay, settled}
+use Rattle.dav_disk.specs.Disk.{Doubt, Touches, OthersStay}
 use Rattle.dav_cache.specs.Stands.{IsFile, IsWritten}
 use Rattle.dav_disk.proofs.Stretch.{touches_begin, touches_join, touches_wider}
 use Rattle.dav_cache.specs.Files.{RestStays, ChangesOnly, Holds, IsStored}

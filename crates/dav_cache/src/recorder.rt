@@ -1,4 +1,4 @@
-ghost use Rattle.std.specs.Prelude.{◌≡◌, ◌≢◌, ◌⊎◌, ℕ, ◌<◌, ◌≤◌, List, [], ◌∷◌, ◌++◌, length, All, Contains, OnOk, OnErr, IfOk, IfErr, MatchResult, Some, None, option_map, vec_capacity};
+ghost use Rattle.std.specs.Prelude.{◌≡◌, ◌≢◌, ◌⊎◌, ℕ, ◌+◌, ◌<◌, ◌≤◌, List, [], ◌∷◌, ◌++◌, length, All, Contains, IsOk, OnOk, OnErr, IfOk, IfErr, MatchResult, Some, None, option_map, vec_capacity};
 ghost use Rattle.sha2.specs.Sha256.{sha256};
 ghost use Rattle.dav_machine.specs.Log.{Rose};
 ghost use Rattle.dav_disk.specs.Disk.{AllStay};
@@ -119,6 +119,7 @@ impl<D: Disk> Recorder<D> {
         ensures early { D.honest → OnErr result (ChangesOnly D.moment D.seen D.past (IsFile fresh) self.old.disk self.new.disk ⊎ (self.new.under ≡ Some (record step { moment = D.moment self.new.disk }))) }
         ensures stored { D.honest → OnOk result (IsStored fresh bytes.now freed.now (D.seen self.new.disk) (D.past self.new.disk (D.moment self.new.disk))) }
         ensures emptied { D.honest → OnOk result (AreEmpty freed.now (D.seen self.new.disk) (D.past self.new.disk (D.moment self.new.disk))) }
+        ensures capacity { vec_capacity self.old.trace.steps ≤ vec_capacity self.new.trace.steps }
         ensures faults { D.faults self.old.disk ≤ D.faults self.new.disk }
     {
         let mut step = step;
@@ -169,6 +170,7 @@ impl<D: Disk> Recorder<D> {
             → IsReady (journal_end self.new.journal) (D.seen self.new.disk 0) (D.past self.new.disk (D.moment self.new.disk) 0) }
         ensures changes { D.honest → ChangesOnly D.moment D.seen D.past (Contains freed.now) self.old.disk self.new.disk }
         ensures emptied { D.honest → OnOk result (AreEmpty freed.now (D.seen self.new.disk) (D.past self.new.disk (D.moment self.new.disk))) }
+        ensures capacity { vec_capacity self.old.trace.steps ≤ vec_capacity self.new.trace.steps }
         ensures faults { D.faults self.old.disk ≤ D.faults self.new.disk }
     {
         let mut step = step;
@@ -235,13 +237,15 @@ impl<D: Disk> Recorder<D> {
         fault_of(fault)
     }
 
-    /// Takes room for one step more.
-    pub fn reserve(&mut self) -> Result<(), Memory>
-        ensures room { OnOk result (length self.new.trace.steps.items < vec_capacity self.new.trace.steps) }
+    /// Takes room for so many steps more. Where there is that room it is Ok.
+    pub fn reserve(&mut self, steps: usize) -> Result<(), Memory>
+        ensures room { OnOk result (length self.new.trace.steps.items + steps ≤ vec_capacity self.new.trace.steps) }
+        ensures succeeds { length self.old.trace.steps.items + steps ≤ vec_capacity self.old.trace.steps → IsOk result }
+        ensures capacity { vec_capacity self.old.trace.steps ≤ vec_capacity self.new.trace.steps }
         ensures items { self.new.trace.steps.items ≡ self.old.trace.steps.items }
         ensures rest { self.new ≡ record self.old { trace = self.new.trace } }
     {
-        self.trace.steps.reserve(1)?;
+        self.trace.steps.reserve(steps)?;
         Ok(())
     }
 
@@ -281,9 +285,8 @@ impl<D: Disk> Recorder<D> {
         requires { length self.old.trace.steps.items < vec_capacity self.old.trace.steps }
         ensures rest { self.new ≡ record self.old { trace = self.new.trace } }
         ensures items { self.new.trace.steps.items ≡ self.old.trace.steps.items ++ step ∷ [] }
+        ensures capacity { vec_capacity self.new.trace.steps ≡ vec_capacity self.old.trace.steps }
     {
-        let Ok(()) = self.trace.steps.push(step) else {
-            unreachable!();
-        };
+        self.trace.steps.push_reserved(step);
     }
 }

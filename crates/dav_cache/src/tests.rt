@@ -98,7 +98,7 @@ fn put<D: Disk>(
     requires ready { D.honest → IsReady (journal_end recorder.old.journal) (D.seen recorder.old.disk 0) (D.past recorder.old.disk (D.moment recorder.old.disk) 0) }
     ensures ready { D.honest → OnOk result (IsReady (journal_end recorder.new.journal) (D.seen recorder.new.disk 0) (D.past recorder.new.disk (D.moment recorder.new.disk) 0)) }
 {
-    recorder.reserve()?;
+    recorder.reserve(1)?;
     recorder.enter(step, fresh, bytes, row, &[])
 }
 

@@ -17,3 +17,4 @@ pub mod Resting
 pub mod Slashes
 pub mod Loops
 pub mod Making
+pub mod Sparing

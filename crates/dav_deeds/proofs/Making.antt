@@ -5,15 +5,14 @@ use Rattle.std.specs.Option.{option_to_list}
 use Rattle.std.proofs.lemmas.Bool.{false≢true, eqb-true, eq-eqb}
 use Rattle.std.proofs.lemmas.List.Elements.{filter_more, filter-append}
 use Rattle.dav_store.specs.Body.{id_of}
-use Rattle.dav_text.specs.Path.{PathParts, IsPath}
+use Rattle.dav_text.specs.Path.{PathParts}
 use Rattle.dav_store.specs.declared.body_id.BodyId.{BodyId}
 use Rattle.dav_index.specs.Item.{Item}
-use Rattle.dav_index.specs.Items.{has_path, with_changed, goes_with}
+use Rattle.dav_index.specs.Items.{goes_with}
 use Rattle.dav_index.specs.Tables.{replay, with_waiting}
-use Rattle.dav_index.specs.declared.entry.Entry.{Entry}
 use Rattle.dav_index.specs.declared.entry.Waiting.{Waiting}
 use Rattle.dav_index.specs.declared.record.Record.{Record}
-use Rattle.dav_index.specs.declared.record.Record.TheVariants.{Closed, Forgot}
+use Rattle.dav_index.specs.declared.record.Record.TheVariants.{Forgot}
 use Rattle.dav_index.specs.declared.table.Table.{Table}
 use Rattle.dav_deeds.specs.declared.desk_table.DeskTable.TheInside.{Inside}
 use Rattle.dav_deeds.specs.DeskTable.{DeskTable}
@@ -28,7 +27,7 @@ use Rattle.dav_deeds.specs.declared.plan.Planned.{Planned}
 use Rattle.dav_deeds.specs.declared.plan.Noting.{Noting}
 use Rattle.dav_deeds.specs.declared.plan.Waits.{Waits}
 use Rattle.dav_deeds.specs.Refusals.{store_refusal, queued_with, queued_fault, job_fault, refusal_of}
-use Rattle.dav_deeds.specs.Legal.{body_unless, deed_of, IsDone}
+use Rattle.dav_deeds.specs.Legal.{body_unless, deed_of}
 use Rattle.dav_deeds.specs.Made.{IsMadeBy, wait_by, file_unless, file_going}
 use Rattle.dav_deeds.specs.declared.answer.Fated.{Fated}
 use Rattle.dav_deeds.specs.declared.answer.Fated.TheVariants as fates
@@ -66,7 +65,7 @@ store_is t who now q p len bytes fault planned row same length_is refused blank 
     (subst (λ (n : ℕ). IsPlannedBy t who now (deeds.Store p n None) (quiet t (marks.Refused fault) None) planned []) length_is h)
 
 -- a settling of the job in flight
-settled_effect : (t : DeskTable) (now job : ℕ) (done : Done) (flight : Flight) → t.job ≡ Some flight → flight.number ≡ job → effect_of t now (deeds.Settle job done) ≡ settle_by_fate t flight done (fated_of t.index flight now done)
+pub settled_effect : (t : DeskTable) (now job : ℕ) (done : Done) (flight : Flight) → t.job ≡ Some flight → flight.number ≡ job → effect_of t now (deeds.Settle job done) ≡ settle_by_fate t flight done (fated_of t.index flight now done)
 settled_effect t now job done flight flies same =
     ap (λ (r : Option DeskFault). effect_unless r t now (deeds.Settle job done)) free
     ∙ ap (λ (o : Option Flight). settle_effect t o now done) flies

@@ -268,7 +268,7 @@ steps_sound t (x ∷ steps) s legal = steps_sound (after t x.now x.deed) steps (
 
 -- what is put on record is a record
 module _ (t : DeskTable) (s : IsSound t) where
-  abbrev Fits : Option Record → Type 0
+  abbrev pub Fits : Option Record → Type 0
   Fits None = Unit {0}
   Fits (Some r) = IsRecord r
 
@@ -308,7 +308,7 @@ module _ (t : DeskTable) (s : IsSound t) where
   fate_record flight (ends.Again after) fated within noted lost = loss_record flight fated within lost
   fate_record flight ends.Refused fated within noted lost = loss_record flight fated within lost
 
-  settle_record : (job : Option Flight) (now : ℕ) (done : Done) → t.job ≡ job → IsDone done → Fits (settle_effect t job now done).on_record
+  pub settle_record : (job : Option Flight) (now : ℕ) (done : Done) → t.job ≡ job → IsDone done → Fits (settle_effect t job now done).on_record
   settle_record None now done same noted = tt
   settle_record (Some flight) now done same noted =
       fate_record flight done (fated_of t.index flight now done) (subst (λ (job : Option Flight). IsJobWithin job t.index) same s.job) noted (λ n is. loss_is t.index flight now done n is)

@@ -5,6 +5,7 @@ pub mod Effects
 pub mod Legal
 pub mod Fate
 pub mod Sound
+pub mod Spare
 pub mod Made
 pub mod Change
 pub mod DeskView

@@ -1,10 +1,11 @@
-ghost use Rattle.std.specs.Prelude.{◌≡◌, ℕ, ◌+◌, ◌<◌, ◌^◌, ◌≤◌, [], length, IfOk, OnOk, OnErr, Option, None, Some};
+ghost use Rattle.std.specs.Prelude.{◌≡◌, ℕ, ◌+◌, ◌<◌, ◌^◌, ◌≤◌, true, false, [], length, IfOk, OnOk, OnErr, Ok, Option, None, Some};
+ghost use Rattle.std.specs.Vec.{vec_capacity};
 ghost use Rattle.dav_text.specs.Path.{IsPath};
 ghost use Rattle.std.specs.List.{list_any};
 ghost use Rattle.dav_index.specs.Items.{goes_with};
 ghost use Rattle.dav_index.specs.Bounds.{IsWithin, queued_count as queued_in};
 ghost use Rattle.dav_index.specs.Tables.{restarted};
-ghost use Rattle.dav_index.specs.Records.{IsRecord, text_of};
+ghost use Rattle.dav_index.specs.Records.{IsBare, IsRecord, text_of};
 ghost use Rattle.dav_index.specs.declared.record.Record.{Record};
 ghost use Rattle.dav_deeds.specs.declared.deed.Deed.{Deed};
 ghost use Rattle.dav_deeds.specs.declared.ask.Ask.TheVariants as asks;
@@ -14,6 +15,10 @@ ghost use Rattle.dav_deeds.specs.Effects.{Wait, after, quiet, effect_of, bare, f
 ghost use Rattle.dav_deeds.specs.Legal.{IsAsk, IsDeed, IsDone};
 ghost use Rattle.dav_deeds.specs.Sound.{IsSound};
 ghost use Rattle.dav_deeds.specs.Made.{row_of, AreRecords, tried_by, wait_by as wait_by_lem, file_going as file_going_lem, IsMade};
+ghost use Rattle.dav_deeds.specs.declared.answer.Fated.{Fated};
+ghost use Rattle.dav_deeds.specs.declared.answer.Flight.{Flight};
+ghost use Rattle.dav_deeds.specs.declared.answer.Told.TheVariants as answers;
+ghost use Rattle.dav_deeds.specs.Spare.{HasTwo, AreRows, IsSpare, HasSpare, IsSaved, ends_job as ends_job_lem};
 ghost use Rattle.dav_deeds.specs.Change.{CanNote, Notes, IsWaiting, IsChange, CanChange, IsPlannedBy, IsPlan};
 
 use crate::answer::{Fated, Flight, Told};
@@ -27,9 +32,10 @@ use crate::pause::later;
 use crate::plan::{Change, NextJob, Noting, Planned, Waits, job_with, jobs_with};
 use crate::queries::{next_due, queued_count};
 use crate::refusals::{forget_fault, store_fault};
-use dav_index::{Held, Record, Table, Waiting};
+use crate::spare::{Rows, Spare};
+use dav_index::{Held, Prepared, Record, Table, Waiting};
 use dav_store::BodyId;
-use dav_text::{Blob, Memory, Path};
+use dav_text::{Blob, Memory, Path, Seen};
 use std::alloc::Global;
 use std::marker::Model;
 
@@ -231,27 +237,21 @@ fn tried_if(
     }))
 }
 
-// The bytes of the job wait, where that became of them.
-fn waits_by(
-    alloc: Global,
-    flight: &Flight,
-    tried: bool,
-    fated: Fated,
-) -> Result<Option<Waits>, Memory>
-    ensures { IfOk result (λ waits. IsWaiting (wait_by_lem flight.now tried fated) waits) }
+// The bytes of the job of this path wait, where that became of them.
+fn waits_by(path: Path, tried: bool, fated: Fated) -> Option<Waits>
+    ensures { (flight : Flight) → path ≡ flight.path → IsWaiting (wait_by_lem flight tried fated) result }
 {
     let Fated::Waits { attempts, due } = fated else {
-        return Ok(None);
+        return None;
     };
-    let path = flight.path.copy(alloc)?;
-    Ok(Some(Waits {
+    Some(Waits {
         path,
         waiting: Waiting {
             attempts,
             due,
             tried,
         },
-    }))
+    })
 }
 
 // Notes the record, if there is one.
@@ -280,43 +280,105 @@ fn wait(index: &mut Table, waits: Option<Waits>)
     }
 }
 
-// The record of a settling, if there is one.
-fn settled_record(
-    alloc: Global,
-    flight: &Flight,
-    done: &Done,
-    fated: Fated,
-) -> Result<Option<Record>, Memory>
-    ensures { IfOk result (λ found. found ≡ record_of_fate flight.now done.now fated) }
+// The record that the bytes of the job were sent, with its row.
+fn sent_noting(index: &Table, flight: &Flight, seen: &Seen, rows: Rows, row: &mut Vec<u8>) -> Noting
+    requires rows { AreRows index.now flight.now rows }
+    requires is_record { IsRecord (Record.Sent flight.now.path flight.now.body.file seen.now) }
+    ensures noting { CanNote index.now (Record.Sent flight.now.path flight.now.body.file seen.now) result }
+    ensures row { row.new.items ≡ text_of (Record.Sent flight.now.path flight.now.body.file seen.now) }
 {
-    let path = flight.path.copy(alloc)?;
-    if let Done::Sent { seen } = done {
-        return Ok(Some(Record::Sent {
+    let Rows {
+        path,
+        mut sent,
+        lost: _,
+        loss: _,
+    } = rows;
+    Record::end_sent(seen, &mut sent);
+    *row = sent;
+    Noting {
+        what: Record::Sent {
             path,
             file: flight.body.file,
             seen: seen.copy(),
-        }));
+        },
+        row: index.records + 1,
+        prepared: Prepared::nothing(),
     }
-    match fated {
-        Fated::Lost { number } => Ok(Some(Record::Lost {
+}
+
+// The record that the bytes of the job are lost under this number, with its row.
+fn lost_noting(index: &Table, flight: &Flight, number: u32, rows: Rows, row: &mut Vec<u8>) -> Noting
+    requires rows { AreRows index.now flight.now rows }
+    requires number { number ≡ index.now.next_lost }
+    requires is_record { IsRecord (Record.Lost number flight.now.path false) }
+    ensures noting { CanNote index.now (Record.Lost number flight.now.path false) result }
+    ensures row { row.new.items ≡ text_of (Record.Lost number flight.now.path false) }
+{
+    let _ = flight;
+    let Rows {
+        path,
+        sent: _,
+        lost,
+        loss,
+    } = rows;
+    *row = lost;
+    Noting {
+        what: Record::Lost {
             number,
             path,
             stays: false,
-        })),
-        _ => Ok(None),
+        },
+        row: index.records + 1,
+        prepared: loss,
+    }
+}
+
+// The record of the end of a job, if there is one, with its row.
+fn ended(
+    index: &Table,
+    flight: &Flight,
+    done: &Done,
+    fated: Fated,
+    rows: Rows,
+    row: &mut Vec<u8>,
+) -> Option<Noting>
+    requires rows { AreRows index.now flight.now rows }
+    requires number { (n : ℕ) → fated ≡ Fated.Lost n → n ≡ index.now.next_lost }
+    requires is_record { AreRecords (record_of_fate flight.now done.now fated) }
+    requires blank { row.old.items ≡ [] }
+    ensures noting { Notes index.now (record_of_fate flight.now done.now fated) result }
+    ensures row { row.new.items ≡ row_of (record_of_fate flight.now done.now fated) }
+{
+    if let Done::Sent { seen } = done {
+        return Some(sent_noting(index, flight, seen, rows, row));
+    }
+    match fated {
+        Fated::Lost { number } => Some(lost_noting(index, flight, number, rows, row)),
+        _ => None,
     }
 }
 
 // The file of the job, where newer bytes are queued.
-fn settled_files(alloc: Global, flight: &Flight, fated: Fated) -> Result<Vec<u32>, Memory>
-    ensures { IfOk result (λ files. files.items ≡ released_by_fate flight.now fated) }
+fn settled_files(room: Vec<u32>, flight: &Flight, fated: Fated) -> Vec<u32>
+    requires blank { room.items ≡ [] }
+    requires room { 0 < vec_capacity room }
+    ensures { result.items ≡ released_by_fate flight.now fated }
 {
-    let mut files = Vec::new(alloc);
-    if fated != Fated::Superseded {
-        return Ok(files);
+    let mut files = room;
+    if fated == Fated::Superseded {
+        files.push_reserved(flight.body.file);
     }
-    files.push(flight.body.file)?;
-    Ok(files)
+    files
+}
+
+// Whether two records more can be counted.
+fn count_two(index: &Table) -> Result<(), Memory>
+    ensures { OnOk result (HasTwo index.now) }
+{
+    match index.records.checked_add(2) {
+        Some(_) => Ok(()),
+        None => Err(Memory),
+    }
 }
 
 // The mark of a settling.
@@ -469,6 +531,83 @@ impl DeskTable {
                 Ok(Some(planned))
             }
             Ask::Stop => Ok(Some(self.plan_stop(who, now))),
+        }
+    }
+
+    /// Whether the ask is the end of the job in flight.
+    pub fn ends_job(&self, ask: &Ask) -> bool
+        ensures { result ≡ ends_job_lem self.now.job ask.now }
+    {
+        match ask {
+            Ask::Settle { job, .. } => match &self.job {
+                Some(flight) => flight.number == *job,
+                None => false,
+            },
+            _ => false,
+        }
+    }
+
+    /// Plans the end of the job in flight with the memory that was taken with the job. Takes none.
+    pub fn plan_end(
+        &self,
+        who: Who,
+        ask: &Ask,
+        now: u64,
+        spare: Spare,
+        row: &mut Vec<u8>,
+    ) -> Planned
+        requires ask { IsAsk ask.now }
+        requires ends { ends_job_lem self.now.job ask.now ≡ true }
+        requires spare { HasSpare self.now (Some spare) }
+        requires blank { row.old.items ≡ [] }
+        ensures { IsPlan self.now who now ask.now (Some result) row.new.items }
+    {
+        let Ask::Settle { job, done } = ask else {
+            unreachable!();
+        };
+        let Some(flight) = &self.job else {
+            unreachable!();
+        };
+        let deed = Deed::Settle {
+            job: *job,
+            done: done.copy(),
+        };
+        self.land(who, now, flight, done, deed, spare, row)
+    }
+
+    /// Takes with a job the memory that its end needs, and none with another answer. Answers `Memory` also where the
+    /// records of this step and of the end could not be counted any more, and never to the end of a job.
+    pub fn save(&self, told: &Option<Told>) -> Result<Option<Spare>, Memory>
+        requires bare { (flight : Flight) → told.now ≡ Some (answers.Took flight) → IsBare flight.path }
+        ensures saved { IfOk result (IsSaved self.now.index told.now) }
+        ensures ends { (fated : Fated) → told.now ≡ Some (answers.Settled fated) → result ≡ Ok None }
+    {
+        match told {
+            Some(told) => self.save_for(told),
+            None => {
+                count_two(&self.index)?;
+                Ok(None)
+            }
+        }
+    }
+
+    // The same for what was told.
+    fn save_for(&self, told: &Told) -> Result<Option<Spare>, Memory>
+        requires bare { (flight : Flight) → told.now ≡ answers.Took flight → IsBare flight.path }
+        ensures saved { IfOk result (IsSaved self.now.index (Some told.now)) }
+        ensures ends { (fated : Fated) → told.now ≡ answers.Settled fated → result ≡ Ok None }
+    {
+        match told {
+            Told::Settled(_) => Ok(None),
+            Told::Took(flight) => {
+                count_two(&self.index)?;
+                let spare = Spare::new(self.alloc, &self.index, flight)?;
+                Ok(Some(spare))
+            }
+            _ => {
+                count_two(&self.index)?;
+                Ok(None)
+            }
         }
     }
 
@@ -751,40 +890,46 @@ impl DeskTable {
             let planned = self.refuse(who, now, deed, fault)?;
             return Ok(planned);
         }
-        let planned = self.plan_land(who, now, flight, done, deed, row)?;
-        Ok(planned)
+        count_two(&self.index)?;
+        let spare = Spare::new(self.alloc, &self.index, flight)?;
+        Ok(self.land(who, now, flight, done, deed, spare, row))
     }
 
     // The job in flight is to be ended.
-    fn plan_land(
+    fn land(
         &self,
         who: Who,
         now: u64,
         flight: &Flight,
         done: &Done,
         deed: Deed,
+        spare: Spare,
         row: &mut Vec<u8>,
-    ) -> Result<Planned, Memory>
+    ) -> Planned
         requires flight { self.now.job ≡ Some flight.now }
         requires done { IsDone done.now }
         requires deed { IsDeed self.now deed }
+        requires spare { IsSpare self.now.index flight.now spare }
         requires blank { row.old.items ≡ [] }
-        ensures { IfOk result (λ planned. IsPlannedBy self.now who now deed (settle_by_fate self.now flight.now done.now (fated_of self.now.index flight.now now done.now)) planned row.new.items) }
+        ensures { IsPlannedBy self.now who now deed (settle_by_fate self.now flight.now done.now (fated_of self.now.index flight.now now done.now)) result row.new.items }
     {
         let fated = fated(&self.index, flight, now, done);
         let tried = waiting_at(&self.index, &flight.path).tried;
-        let released = settled_files(self.alloc, flight, fated)?;
-        let waits = waits_by(self.alloc, flight, tried, fated)?;
-        let found = settled_record(self.alloc, flight, done, fated)?;
-        let noting = noting_if(&self.index, found, row)?;
-        Ok(Planned {
+        let Spare {
+            rows,
+            waits,
+            released,
+        } = spare;
+        let released = settled_files(released, flight, fated);
+        let noting = ended(&self.index, flight, done, fated, rows, row);
+        Planned {
             made: settled(who, now, deed, fated, released),
             change: Change {
                 noting,
-                waits,
+                waits: waits_by(waits, tried, fated),
                 job: NextJob::Ended,
                 stopping: self.stopping,
             },
-        })
+        }
     }
 }

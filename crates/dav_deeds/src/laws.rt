@@ -1,4 +1,4 @@
-ghost use Rattle.std.specs.Prelude.{◌≡◌, ◌≢◌, ◌⊎◌, ℕ, ◌≤◌, false, List, Some, None};
+ghost use Rattle.std.specs.Prelude.{◌≡◌, ◌≢◌, ◌⊎◌, ℕ, ◌≤◌, false, List, Option, Some, None};
 ghost use Rattle.std.specs.List.{Contains};
 ghost use Rattle.dav_store.specs.declared.body_id.BodyId.{BodyId};
 ghost use Rattle.dav_index.specs.Records.{IsRecord};
@@ -9,7 +9,9 @@ ghost use Rattle.dav_index.specs.declared.table.Table.{Table};
 ghost use Rattle.dav_deeds.specs.declared.deed.Deed.{Deed};
 ghost use Rattle.dav_deeds.specs.declared.deed.Step.{Step};
 ghost use Rattle.dav_deeds.specs.DeskTable.{DeskTable, reopened, started};
-ghost use Rattle.dav_deeds.specs.Effects.{after, record_of, recorded, released_of, is_flying};
+ghost use Rattle.dav_deeds.specs.Effects.{after, record_of, recorded, released_of, is_flying, told_of};
+ghost use Rattle.dav_deeds.specs.Spare.{HasSpare, IsSaved, kept_spare};
+ghost use Rattle.dav_deeds.specs.declared.spare.Spare.{Spare};
 ghost use Rattle.dav_deeds.specs.Legal.{IsDeed, Legal, new_body, table_after};
 ghost use Rattle.dav_deeds.specs.Fate.{IsKept};
 ghost use Rattle.dav_deeds.specs.Sound.{IsSound};
@@ -58,4 +60,10 @@ pub fn released_files_are_free()
 pub fn starts_keep_bodies()
     ensures within { (t : Table) → IsWithin t → IsWithin (restarted t) }
     ensures bodies { (t : Table) → bodies_of (restarted t) ≡ bodies_of t }
+{}
+
+/// A law: after each deed what was saved with its answer, or else what was there before, is enough for the end of
+/// the job in flight.
+pub fn ends_have_room()
+    ensures { (t : DeskTable) (now : ℕ) (deed : Deed) (old saved : Option Spare) → HasSpare t old → IsSaved t.index (told_of t now deed) saved → HasSpare (after t now deed) (kept_spare saved old) }
 {}

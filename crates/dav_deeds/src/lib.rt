@@ -15,6 +15,7 @@ mod pause;
 mod plan;
 mod queries;
 mod refusals;
+mod spare;
 
 pub use answer::{Answer, Fated, Flight, Job, Told};
 pub use ask::{Ask, Done, Who};
@@ -22,11 +23,12 @@ pub use deed::{Deed, Mark, Step, Trace};
 pub use desk_table::DeskTable;
 pub use fault::DeskFault;
 pub use laws::{
-    deeds_keep_bounds, deeds_name_one_body, last_bytes_are_kept, records_are_enough,
-    records_are_written, released_files_are_free, starts_keep_bodies,
+    deeds_keep_bounds, deeds_name_one_body, ends_have_room, last_bytes_are_kept,
+    records_are_enough, records_are_written, released_files_are_free, starts_keep_bodies,
 };
 pub use made::Made;
 pub use plan::{Change, Planned};
+pub use spare::{Spare, kept_spare};
 
 #[cfg(test)]
 mod tests;

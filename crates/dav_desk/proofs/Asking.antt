@@ -1,5 +1,5 @@
 -- How a call of a desk ends, at each of its exits.
-use Rattle.std.proofs.Common.{◌≡◌, ◌≢◌, ◌⊎◌, inl, inr, ℕ, ◌≤◌, List, [], ◌∷◌, ◌++◌, Option, Some, None, Result, Ok, Err, refl, sym, ◌∙◌, ap, subst, append-nil}
+use Rattle.std.proofs.Common.{◌≡◌, ◌≢◌, ◌⊎◌, inl, inr, ℕ, List, [], ◌∷◌, ◌++◌, Option, Some, None, Result, Ok, Err, refl, sym, ◌∙◌, ap, subst, append-nil}
 use Rattle.dav_machine.specs.Log.{Rose}
 use Rattle.dav_store.specs.declared.body_id.BodyId.{BodyId}
 use Rattle.dav_deeds.specs.DeskTable.{DeskTable}
@@ -23,7 +23,7 @@ use Rattle.dav_desk.specs.declared.desk.Desk.{Desk}
 use Rattle.dav_desk.specs.Ends.{IsEnd, IsEndIfAny}
 use Rattle.dav_desk.specs.Ended.{IsAsked}
 use Rattle.dav_desk.specs.Entry.{IsMissing}
-use Rattle.dav_desk.specs.Verdict.{Went, Stopped, Starved, step_of, unless_idle, with_bytes}
+use Rattle.dav_desk.specs.Verdict.{Went, Stopped, Starved, step_of, with_bytes}
 use Rattle.dav_desk.proofs.Telling.{one_step, no_step, some_step}
 
 -- a fault of a fetch is want of memory, or one by which a desk is dead

@@ -1,20 +1,22 @@
 -- A step that is carried out, at each of its exits.
-use Rattle.std.proofs.Common.{◌≡◌, ◌≢◌, ◌⊎◌, inl, inr, ℕ, ◌≤◌, List, [], ◌∷◌, ◌++◌, Option, Some, None, Result, Ok, Err, refl, sym, ◌∙◌, ap, subst, arith}
+use Rattle.std.proofs.Common.{◌≡◌, ◌≢◌, ◌⊎◌, inl, inr, ℕ, ◌≤◌, List, [], ◌∷◌, ◌++◌, length, ◌+◌, Option, Some, None, Result, Err, refl, sym, ◌∙◌, ap, subst, arith}
+use Rattle.std.specs.Vec.{vec_capacity}
 use Rattle.dav_disk.specs.Disk.{Doubt}
 use Rattle.dav_machine.specs.Log.{Rose}
 use Rattle.dav_machine.proofs.Logs.{then_rose}
 use Rattle.dav_index.specs.Bounds.{bodies_of}
-use Rattle.dav_store.specs.declared.body_id.BodyId.{BodyId}
-use Rattle.dav_deeds.specs.Answers.{answer_of}
 use Rattle.dav_deeds.specs.DeskTable.{DeskTable}
 use Rattle.dav_deeds.specs.Change.{IsPlannedBy}
-use Rattle.dav_deeds.specs.Effects.{after, effect_of, told_of, taken}
+use Rattle.dav_deeds.specs.Effects.{after, effect_of, told_of}
 use Rattle.dav_deeds.specs.Legal.{deed_of, table_after}
 use Rattle.dav_deeds.specs.Sound.{IsSound}
 use Rattle.dav_deeds.specs.declared.answer.Answer.{Answer}
 use Rattle.dav_deeds.specs.declared.answer.Flight.{Flight}
 use Rattle.dav_deeds.specs.declared.answer.Told.{Told}
-use Rattle.dav_deeds.specs.declared.answer.Told.TheVariants.{Took}
+use Rattle.dav_deeds.specs.declared.answer.Fated.{Fated}
+use Rattle.dav_deeds.specs.declared.answer.Told.TheVariants.{Took, Settled}
+use Rattle.dav_deeds.specs.Spare.{HasSpare}
+use Rattle.dav_deeds.specs.declared.spare.Spare.{Spare}
 use Rattle.dav_deeds.specs.declared.ask.Ask.{Ask}
 use Rattle.dav_deeds.specs.declared.ask.Who.{Who}
 use Rattle.dav_deeds.specs.declared.deed.Deed.{Deed}
@@ -32,10 +34,12 @@ use Rattle.dav_desk.specs.declared.desk.Desk.{Desk}
 use Rattle.dav_desk.specs.Ended.{IsAsked}
 use Rattle.dav_desk.specs.Entry.{bytes_in, IsEntry, IsMissing}
 use Rattle.dav_desk.specs.Verdict.{with_bytes}
-use Rattle.dav_desk.specs.Working.{AreGiven, IsReadied, IsWorking, HasBytes, HasSum}
+use Rattle.dav_desk.specs.Working.{AreGiven, IsReadied, IsWorking}
 use Rattle.dav_desk.proofs.Asking.{end_of, asked_starved, asked_missing, asked_failed, asked_went, stamped_is}
 use Rattle.dav_desk.proofs.Entering.{live_left, planned_entry}
-use Rattle.dav_desk.proofs.Going.{CanRecord, readied_reserved, records_reserved, readied_alive, readied_dead, lives_reserved, works_still, works_on}
+use Rattle.dav_desk.specs.Room.{slots, HasSlotOf, IsHeldFor}
+use Rattle.dav_desk.proofs.Rooming.{room_like, held_room, slot_after}
+use Rattle.dav_desk.proofs.Going.{CanRecord, records_reserved, readied_alive, readied_dead, lives_reserved, works_still, works_on}
 use Rattle.dav_desk.proofs.Telling.{took_is, taken_named}
 
 -- the desk from before, the ask and its plan, and the recorder once there is room for a step more
@@ -43,9 +47,11 @@ pub record Base {D : Type 0} (honest : Type 0) (moment : D → ℕ) (seen : D �
   pub alive : old.recorder.dead ≡ None
   pub sound : IsSound old.table
   pub plan : IsPlannedBy old.table planned.made.step.who planned.made.step.now (deed_of old.table ask) (effect_of old.table planned.made.step.now (deed_of old.table ask)) planned row
-  pub readied : IsReadied honest moment seen past old
+  pub ready : honest → CanRecord honest moment seen past old.recorder
+  pub held : IsHeldFor planned.made.step.told old
   pub rest : r ≡ record old.recorder { trace = r.trace }
   pub room : r.trace.steps.items ≡ old.recorder.trace.steps.items
+  pub more : vec_capacity old.recorder.trace.steps ≤ vec_capacity r.trace.steps
 
 -- the recorder once the bytes of the job are read, or are not to be had
 pub record Read {D : Type 0} (honest : Type 0) (moment : D → ℕ) (seen : D → ℕ → List ℕ) (past : D → ℕ → ℕ → Doubt) (faults : D → ℕ) (r q : Recorder D) : Type 0 where
@@ -70,7 +76,7 @@ module _ {D : Type 0} (honest : Type 0) (moment : D → ℕ) (seen : D → ℕ �
   now = planned.made.step.now
 
   abbrev pub with_recorder : Recorder D → Desk D
-  with_recorder x = record { alloc = old.alloc; recorder = x; table = old.table }
+  with_recorder x = record { alloc = old.alloc; recorder = x; table = old.table; spare = old.spare }
 
   same_disk : r.disk ≡ old.recorder.disk
   same_disk = ap (λ (x : Recorder D). x.disk) b.rest
@@ -82,7 +88,7 @@ module _ {D : Type 0} (honest : Type 0) (moment : D → ℕ) (seen : D → ℕ �
   same_under = ap (λ (x : Recorder D). x.under) b.rest
 
   can_record : honest → CanRecord honest moment seen past r
-  can_record h = records_reserved honest moment seen past old.recorder r b.rest (b.readied.index h b.alive)
+  can_record h = records_reserved honest moment seen past old.recorder r b.rest (b.ready h)
 
   same_faults : faults r.disk ≡ faults old.recorder.disk
   same_faults = ap faults same_disk
@@ -91,8 +97,8 @@ module _ {D : Type 0} (honest : Type 0) (moment : D → ℕ) (seen : D → ℕ �
   pub starved_asked : IsAsked honest moment seen faults who now ask old (with_recorder r) (Err Memory)
   starved_asked = asked_starved honest moment seen faults who now ask old (with_recorder r) b.alive same_disk (same_dead ∙ sym b.alive) same_under b.room refl
 
-  pub starved_readied : IsReadied honest moment seen past (with_recorder r)
-  starved_readied = readied_reserved honest moment seen past old r b.rest b.readied
+  pub starved_readied : ((fated : Fated) → planned.made.step.told ≡ Some (Settled fated) → ⊥) → IsReadied honest moment seen past (with_recorder r)
+  starved_readied other = readied_alive honest moment seen past (with_recorder r) same_dead can_record (room_like old r b.room b.more (held_room old planned.made.step.told other b.held))
 
   pub starved_faults : faults old.recorder.disk ≤ faults r.disk
   starved_faults = omega (arith, same_faults)
@@ -131,6 +137,8 @@ module _ {D : Type 0} (honest : Type 0) (moment : D → ℕ) (seen : D → ℕ �
       pub missing_readied : IsReadied honest moment seen past (with_recorder q)
       missing_readied = elim (end_of honest missing.flight.body (seen r.disk missing.flight.body.file) (faults r.disk) (faults q.disk) e missing.cause) [
         | inl want ↦ readied_alive honest moment seen past (with_recorder q) ((starved want).1 ∙ same_dead) (λ h. k.ready h (can_record h))
+            (room_like old q same_items (subst (λ (t : Trace). vec_capacity old.recorder.trace.steps ≤ vec_capacity t.steps) (sym k.trace.0) b.more)
+            (subst (λ (o : Option Told). IsHeldFor o old) missing.is_told b.held))
         | inr end ↦ readied_dead honest moment seen past (with_recorder q) e (stopped end.1) end.0
       ]
 
@@ -179,24 +187,36 @@ module _ {D : Type 0} (honest : Type 0) (moment : D → ℕ) (seen : D → ℕ �
       failed_not_alive dead none = let no : Some Disk ≡ None = sym dead ∙ none in cc no
 
     -- the step stands, and the table is changed
-    module _ (p : Recorder D) (t : DeskTable) (m : Stood moment faults old ask planned r q p t) where
+    module _ (p : Recorder D) (t : DeskTable) (s : Option Spare) (m : Stood moment faults old ask planned r q p t) where
       still_alive : p.dead ≡ None
       still_alive = m.ended.2 ∙ m.kept ∙ same_dead
 
       grown : p.trace.steps.items ≡ old.recorder.trace.steps.items ++ stamped planned.made.step (moment p.disk) ∷ []
       grown = m.ended.0 ∙ ap (λ (l : List Step). l ++ stamped planned.made.step (moment p.disk) ∷ []) same_items
 
-      pub went_asked : (bytes : List ℕ) (result : Result Answer DeskFault) → result ≡ with_bytes planned.made.answer bytes → IsAsked honest moment seen faults who now ask old (record { alloc = old.alloc; recorder = p; table = t }) result
+      pub went_asked : (bytes : List ℕ) (result : Result Answer DeskFault) → result ≡ with_bytes planned.made.answer bytes → IsAsked honest moment seen faults who now ask old (record { alloc = old.alloc; recorder = p; table = t; spare = s }) result
       went_asked bytes result is =
-          asked_went honest moment seen faults who now ask old (record { alloc = old.alloc; recorder = p; table = t }) planned row bytes result b.alive b.plan is m.applied grown (still_alive ∙ sym b.alive) (m.ended.1 ∙ k.trace.1 ∙ same_under)
+          asked_went honest moment seen faults who now ask old (record { alloc = old.alloc; recorder = p; table = t; spare = s }) planned row bytes result b.alive b.plan is m.applied grown (still_alive ∙ sym b.alive) (m.ended.1 ∙ k.trace.1 ∙ same_under)
 
-      pub went_readied : (honest → CanRecord honest moment seen past p) → IsReadied honest moment seen past (record { alloc = old.alloc; recorder = p; table = t })
-      went_readied can = readied_alive honest moment seen past (record { alloc = old.alloc; recorder = p; table = t }) still_alive can
+      pub went_readied : (honest → CanRecord honest moment seen past p) → HasSpare (after old.table now (deed_of old.table ask)) s
+          → length r.trace.steps.items + slots planned.made.step.told ≤ vec_capacity r.trace.steps → vec_capacity q.trace.steps ≤ vec_capacity p.trace.steps
+          → IsReadied honest moment seen past (record { alloc = old.alloc; recorder = p; table = t; spare = s })
+      went_readied can spare two more =
+          let desk : Desk D = record { alloc = old.alloc; recorder = p; table = t; spare = s } in
+          let more' : vec_capacity r.trace.steps ≤ vec_capacity p.trace.steps = subst (λ (x : Trace). vec_capacity x.steps ≤ vec_capacity p.trace.steps) k.trace.0 more in
+          let two' : length old.recorder.trace.steps.items + slots (told_of old.table now (deed_of old.table ask)) ≤ vec_capacity r.trace.steps =
+          subst (λ (l : List Step). length l + slots (told_of old.table now (deed_of old.table ask)) ≤ vec_capacity r.trace.steps) b.room
+          (subst (λ (o : Option Told). length r.trace.steps.items + slots o ≤ vec_capacity r.trace.steps) told_is two) in
+          readied_alive honest moment seen past desk still_alive can (record {
+            spare = subst (λ (u : DeskTable). HasSpare u s) (sym m.applied) spare;
+            slot = subst (λ (u : DeskTable). HasSlotOf u.job (length p.trace.steps.items) (vec_capacity p.trace.steps)) (sym m.applied)
+                (slot_after old.table now (deed_of old.table ask) old.recorder.trace.steps.items p.trace.steps.items (stamped planned.made.step (moment p.disk)) (vec_capacity r.trace.steps) (vec_capacity p.trace.steps) grown two' more');
+          })
 
       pub went_works : (url : List ℕ) (opening : DeskTable) (start : ℕ) (given : ℕ → List ℕ) → IsWorking moment seen past url opening start given old → IsLive moment seen past url opening start given p
-          → IsWorking moment seen past url opening start given (record { alloc = old.alloc; recorder = p; table = t })
+          → IsWorking moment seen past url opening start given (record { alloc = old.alloc; recorder = p; table = t; spare = s })
       went_works url opening start given is live =
-          works_on moment seen past url opening start given old (record { alloc = old.alloc; recorder = p; table = t }) planned.made.step (moment p.disk)
+          works_on moment seen past url opening start given old (record { alloc = old.alloc; recorder = p; table = t; spare = s }) planned.made.step (moment p.disk)
           (m.applied ∙ ap (λ (d : Deed). after old.table now d) (sym (ap (λ (s : Step). s.deed) b.plan.step))) grown still_alive is live
 
       pub went_lives_on : p.dead ≢ None → ⊥

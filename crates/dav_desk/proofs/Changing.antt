@@ -1,5 +1,5 @@
 -- Which files of its disk a desk changes, at each of its exits.
-use Rattle.std.proofs.Common.{◌≡◌, ◌≢◌, ℕ, List, [], length, Bool, Option, Some, None, Result, Ok, Err, OnOk, refl, sym, ◌∙◌, ap, subst, arith}
+use Rattle.std.proofs.Common.{◌≡◌, ◌≢◌, ℕ, List, [], length, Bool, Option, Some, None, Result, Ok, Err, IfOk, OnOk, refl, sym, ◌∙◌, subst, arith}
 use Rattle.dav_text.specs.Path.{PathParts}
 use Rattle.dav_disk.specs.Disk.{Doubt}
 use Rattle.dav_store.specs.Body.{id_of}
@@ -21,7 +21,7 @@ use Rattle.dav_deeds.specs.declared.deed.Deed.TheVariants.{Store, Forget, Settle
 use Rattle.dav_deeds.specs.declared.fault.DeskFault.{DeskFault}
 use Rattle.dav_cache.specs.Files.{ChangesOnly, AreEmpty, IsStored}
 use Rattle.dav_cache.specs.Stands.{IsFile, IsWritten}
-use Rattle.dav_cache.proofs.Filing.{changes_none, changes_wider, changes_behind}
+use Rattle.dav_cache.proofs.Filing.{changes_wider, changes_behind}
 use Rattle.dav_desk.specs.Changed.{fresh_by, freed_by}
 use Rattle.dav_desk.specs.Entry.{bytes_in, file_in}
 use Rattle.dav_desk.proofs.Entering.{text_wide}
@@ -105,3 +105,12 @@ module _ (t : DeskTable) (now : ℕ) (ask : Ask) (deed : Deed) (bytes freed : Li
 -- the bytes of the job were looked for, and no more
 pub changes_looked : {D : Type 0} (moment : D → ℕ) (seen : D → ℕ → List ℕ) (past : D → ℕ → ℕ → Doubt) (F : ℕ → Type 0) (before roomy read : D) → roomy ≡ before → ChangesOnly moment seen past (λ _. ⊥) roomy read → ChangesOnly moment seen past F before read
 changes_looked {D} moment seen past F before roomy read same looks = subst (λ (d : D). ChangesOnly moment seen past F d read) same (changes_wider moment seen past (λ _. ⊥) F roomy read (λ f never. absurd never) looks)
+
+-- what holds of an answer
+pub ok_map : {A E : Type 0} (r : Result A E) (P Q : A → Type 0) → ((a : A) → P a → Q a) → IfOk r P → IfOk r Q
+ok_map (Ok a) P Q of h = of a h
+ok_map (Err e) P Q of h = tt
+
+pub on_ok_map : {A E : Type 0} (r : Result A E) (P Q : Type 0) → (P → Q) → OnOk r P → OnOk r Q
+on_ok_map (Ok a) P Q of h = of h
+on_ok_map (Err e) P Q of h = tt

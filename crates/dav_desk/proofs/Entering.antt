@@ -1,5 +1,5 @@
 -- Steps that are put on the disk.
-use Rattle.std.proofs.Common.{◌≡◌, ◌≢◌, inl, inr, ℕ, ◌+◌, ◌<◌, ◌≤◌, List, [], ◌∷◌, ◌++◌, length, get_or, Bool, true, false, nat_eq, Option, Some, None, refl, sym, ◌∙◌, ap, subst, arith}
+use Rattle.std.proofs.Common.{◌≡◌, ◌≢◌, ℕ, ◌<◌, ◌≤◌, List, [], ◌∷◌, length, get_or, Bool, true, false, nat_eq, Option, Some, None, refl, sym, ◌∙◌, ap, subst, arith}
 use Rattle.std.proofs.lemmas.Bool.{false≢true, eqb-true}
 use Rattle.std.proofs.lemmas.List.Elements.{All-contains_itself}
 use Rattle.std.specs.List.{All}
@@ -7,7 +7,7 @@ use Rattle.dav_disk.specs.Disk.{Doubt}
 use Rattle.dav_store.specs.Body.{id_of}
 use Rattle.dav_store.specs.Rows.{IsPayload}
 use Rattle.dav_store.specs.declared.body_id.BodyId.{BodyId}
-use Rattle.dav_index.specs.Records.{IsRecord, text_of}
+use Rattle.dav_index.specs.Records.{text_of}
 use Rattle.dav_index.specs.declared.record.Record.{Record}
 use Rattle.dav_index.specs.declared.record.Record.TheVariants as records
 use Rattle.dav_index.proofs.LawLemmas.{text_fits}

@@ -1,11 +1,10 @@
 -- How a desk goes on, or ends.
-use Rattle.std.proofs.Common.{◌≡◌, ◌≢◌, ◌⊎◌, inl, inr, ℕ, List, [], ◌∷◌, ◌++◌, Option, Some, None, Result, Ok, Err, refl, sym, ◌∙◌, ap, subst}
+use Rattle.std.proofs.Common.{◌≡◌, ℕ, List, [], ◌∷◌, ◌++◌, Option, Some, None, Result, refl, sym, ◌∙◌, ap, subst}
 use Rattle.std.specs.Prelude.{IfOk}
 use Rattle.sha2.specs.Sha256.{sha256}
 use Rattle.dav_disk.specs.Disk.{Doubt}
 use Rattle.dav_store.specs.Rows.{IsReady}
 use Rattle.dav_store.specs.View.{journal_end}
-use Rattle.dav_store.specs.declared.body_id.BodyId.{BodyId}
 use Rattle.dav_deeds.specs.Answers.{answer_of}
 use Rattle.dav_deeds.specs.DeskTable.{DeskTable}
 use Rattle.dav_deeds.specs.Effects.{after}
@@ -18,15 +17,14 @@ use Rattle.dav_deeds.specs.declared.answer.Told.TheVariants.{Closed, Forgot, Too
 use Rattle.dav_deeds.specs.declared.deed.Mark.{Mark}
 use Rattle.dav_deeds.specs.declared.deed.Mark.TheVariants as marks
 use Rattle.dav_deeds.specs.declared.deed.Step.{Step}
-use Rattle.dav_deeds.specs.declared.deed.Trace.{Trace}
 use Rattle.dav_deeds.specs.declared.fault.DeskFault.{DeskFault}
-use Rattle.dav_deeds.specs.declared.fault.DeskFault.TheVariants.{Disk, Memory}
 use Rattle.dav_deeds.proofs.Taking.{table_push}
-use Rattle.dav_cache.specs.Survives.{IsLive, IsLeft}
+use Rattle.dav_cache.specs.Survives.{IsLive}
 use Rattle.dav_cache.specs.declared.recorder.Recorder.{Recorder}
 use Rattle.dav_cache.proofs.LiveLemmas.{stamped}
 use Rattle.dav_desk.specs.declared.desk.Desk.{Desk}
 use Rattle.dav_desk.specs.Ends.{IsEnd, IsEndIfAny}
+use Rattle.dav_desk.specs.Room.{HasRoom}
 use Rattle.dav_desk.specs.Verdict.{with_bytes}
 use Rattle.dav_desk.specs.Working.{IsReadied, IsWorking, HasBytes, HasSum}
 use Rattle.dav_desk.proofs.Entering.{live_reserved}
@@ -35,24 +33,19 @@ module _ {D : Type 0} (honest : Type 0) (moment : D → ℕ) (seen : D → ℕ �
   abbrev pub CanRecord : Recorder D → Type 0
   CanRecord r = IsReady (journal_end r.journal) (seen r.disk 0) (past r.disk (moment r.disk) 0)
 
-  -- room for a step more was taken
-  pub readied_reserved : (old : Desk D) (r : Recorder D) → r ≡ record old.recorder { trace = r.trace } → IsReadied honest moment seen past old → IsReadied honest moment seen past (record old { recorder = r })
-  readied_reserved old r rest is =
-      subst (λ (x : Recorder D). IsReadied honest moment seen past (record old { recorder = x })) (sym rest) (record { index = is.index; end = is.end })
-
   pub records_reserved : (old r : Recorder D) → r ≡ record old { trace = r.trace } → CanRecord old → CanRecord r
   records_reserved old r rest is = subst CanRecord (sym rest) is
 
   -- the desk lives on
-  pub readied_alive : (desk : Desk D) → desk.recorder.dead ≡ None → (honest → CanRecord desk.recorder) → IsReadied honest moment seen past desk
-  readied_alive desk alive can = record { index = λ h is. can h; end = subst IsEndIfAny (sym alive) tt }
+  pub readied_alive : (desk : Desk D) → desk.recorder.dead ≡ None → (honest → CanRecord desk.recorder) → HasRoom desk → IsReadied honest moment seen past desk
+  readied_alive desk alive can room = record { index = λ h is. can h; end = subst IsEndIfAny (sym alive) tt; room = λ is. room }
 
   -- or has died
   pub readied_dead : (desk : Desk D) (fault : DeskFault) → desk.recorder.dead ≡ Some fault → IsEnd fault → IsReadied honest moment seen past desk
-  readied_dead desk fault dead end = record { index = λ h alive. not_both alive; end = subst IsEndIfAny (sym dead) end }
+  readied_dead desk fault dead end = record { index = λ h alive. absurd (not_both alive); end = subst IsEndIfAny (sym dead) end; room = λ alive. absurd (not_both alive) }
     where
-      not_both : desk.recorder.dead ≡ None → CanRecord desk.recorder
-      not_both alive = let no : None ≡ Some fault = sym alive ∙ dead in cc no
+      not_both : desk.recorder.dead ≡ None → ⊥
+      not_both alive = let same : None ≡ Some fault = sym alive ∙ dead in cc same
 
 module _ {D : Type 0} (moment : D → ℕ) (seen : D → ℕ → List ℕ) (past : D → ℕ → ℕ → Doubt) (url : List ℕ) (opening : DeskTable) (start : ℕ) (given : ℕ → List ℕ) where
   abbrev pub Works : Desk D → Type 0

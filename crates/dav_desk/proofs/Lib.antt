@@ -5,3 +5,4 @@ pub mod Going
 pub mod Carrying
 pub mod Changing
 pub mod Keeping
+pub mod Rooming

@@ -1,5 +1,5 @@
 -- What is told, and the bytes that it names.
-use Rattle.std.proofs.Common.{◌≡◌, ◌≢◌, inl, inr, ℕ, suc, ◌<◌, ◌≤◌, Bool, true, false, List, [], ◌∷◌, length, Option, Some, None, Result, Ok, Err, Contains, refl, sym, ◌∙◌, ap, subst, arith}
+use Rattle.std.proofs.Common.{◌≡◌, ◌≢◌, ℕ, suc, Bool, false, List, [], ◌∷◌, length, Option, Some, None, Contains, refl, sym, ◌∙◌, ap, subst, arith}
 use Rattle.std.proofs.lemmas.Bool.{false≢true}
 use Rattle.dav_text.specs.Path.{PathParts}
 use Rattle.dav_store.specs.Body.{id_of}
@@ -10,7 +10,7 @@ use Rattle.dav_index.specs.Bounds.{bodies_of}
 use Rattle.dav_index.specs.Tables.{waiting_body}
 use Rattle.dav_index.specs.declared.entry.Waiting.{Waiting}
 use Rattle.dav_deeds.specs.DeskTable.{DeskTable}
-use Rattle.dav_deeds.specs.Effects.{take_effect, settle_effect, store_effect, taken, effect_unless, told_of}
+use Rattle.dav_deeds.specs.Effects.{take_effect, settle_effect, taken, effect_unless, told_of}
 use Rattle.dav_deeds.specs.Legal.{deed_of, body_unless}
 use Rattle.dav_deeds.specs.Refusals.{store_refusal, refusal_of}
 use Rattle.dav_deeds.specs.Fate.{IsOfTable}
@@ -21,7 +21,7 @@ use Rattle.dav_deeds.specs.declared.answer.Told.TheVariants.{Closed, Forgot, Too
 use Rattle.dav_deeds.specs.declared.ask.Ask.{Ask}
 use Rattle.dav_deeds.specs.declared.ask.Ask.TheVariants as asks
 use Rattle.dav_deeds.specs.declared.ask.Done.{Done}
-use Rattle.dav_deeds.specs.declared.deed.Deed.TheVariants.{Store, Forget, Take, Settle, Stop}
+use Rattle.dav_deeds.specs.declared.deed.Deed.TheVariants.{Store, Forget, Settle}
 use Rattle.dav_deeds.specs.declared.deed.Step.{Step}
 use Rattle.dav_deeds.specs.declared.fault.DeskFault.{DeskFault}
 use Rattle.dav_deeds.proofs.Bodies.{OfBody, EachBody, each_body}

@@ -1,5 +1,5 @@
 -- What a call of a desk does to it, whatever its disk is.
-use Rattle.std.specs.Prelude.{◌≡◌, ◌≢◌, ◌⊎◌, ℕ, List, [], ◌++◌, Option, Some, None, Result}
+use Rattle.std.specs.Prelude.{◌≡◌, ◌⊎◌, ℕ, List, [], ◌++◌, Some, None, Result}
 use Rattle.dav_machine.specs.Log.{Rose}
 use Rattle.dav_disk.specs.Disk.{AllStay}
 use Rattle.dav_deeds.specs.DeskTable.{DeskTable}

@@ -1,5 +1,5 @@
 -- What is put on the disk of a step.
-use Rattle.std.specs.Prelude.{◌≡◌, ◌≢◌, ℕ, List, [], Option, Some, None}
+use Rattle.std.specs.Prelude.{◌≡◌, ℕ, List, [], Option, Some, None}
 use Rattle.dav_disk.specs.Disk.{AllStay}
 use Rattle.dav_store.specs.declared.body_id.BodyId.{BodyId}
 use Rattle.dav_deeds.specs.DeskTable.{DeskTable}

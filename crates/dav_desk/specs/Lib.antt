@@ -4,3 +4,4 @@ pub mod Ended
 pub mod Working
 pub mod Entry
 pub mod Changed
+pub mod Room

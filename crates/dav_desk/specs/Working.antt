@@ -14,12 +14,14 @@ use Rattle.dav_deeds.specs.declared.ask.Ask.TheVariants.{Store, Forget, Take, Se
 use Rattle.dav_cache.specs.Survives.{IsLive, IsLeft}
 use Rattle.dav_desk.specs.declared.desk.Desk.{Desk}
 use Rattle.dav_desk.specs.Ends.{IsEndIfAny}
+use Rattle.dav_desk.specs.Room.{HasRoom}
 
--- the desk can be asked: unless it is dead, a record can be added to its index
+-- the desk can be asked: unless it is dead, a record can be added to its index, and there is room for the end of its job
 pub record IsReadied {D : Type 0} (honest : Type 0) (moment : D → ℕ) (seen : D → ℕ → List ℕ) (past : D → ℕ → ℕ → Doubt) (desk : Desk D) : Type 0 where
   pub index : honest → desk.recorder.dead ≡ None
       → IsReady (journal_end desk.recorder.journal) (seen desk.recorder.disk 0) (past desk.recorder.disk (moment desk.recorder.disk) 0)
   pub end : IsEndIfAny desk.recorder.dead
+  pub room : desk.recorder.dead ≡ None → HasRoom desk
 
 -- A desk that began with this table at that moment and works: its table is the one after its steps, and is on the disk. Since it
 -- began a stop left, at each moment, the table after a front of its steps.

@@ -1,11 +1,16 @@
-ghost use Rattle.std.specs.Prelude.{◌≡◌, ◌≢◌, ◌⊎◌, ℕ, ◌<◌, ◌≤◌, List, [], length, All, IfOk, IfErr, OnOk, OnErr, MatchResult, None, Some, option_map, vec_capacity};
+ghost use Rattle.std.specs.Prelude.{◌≡◌, ◌≢◌, ◌⊎◌, ℕ, ◌<◌, ◌≤◌, true, List, [], length, All, IfOk, IfErr, OnOk, OnErr, MatchResult, None, Some, option_map, vec_capacity};
 ghost use Rattle.dav_machine.specs.Log.{Rose};
 ghost use Rattle.dav_store.specs.Rows.{IsPayload, IsReady};
 ghost use Rattle.dav_store.specs.View.{journal_end};
 ghost use Rattle.dav_index.specs.Bounds.{queued_count as queued_in};
 ghost use Rattle.dav_index.specs.declared.table.Table.{Table};
 ghost use Rattle.dav_deeds.specs.DeskTable.{DeskTable, started};
-ghost use Rattle.dav_deeds.specs.Legal.{IsAsk};
+ghost use Rattle.dav_deeds.specs.Effects.{after};
+ghost use Rattle.dav_deeds.specs.Legal.{IsAsk, deed_of};
+ghost use Rattle.dav_deeds.specs.Spare.{HasSpare, kept_spare as kept_spare_lem, ends_job};
+ghost use Rattle.dav_deeds.specs.declared.answer.Fated.{Fated};
+ghost use Rattle.dav_deeds.specs.declared.answer.Told.TheVariants.{Settled};
+ghost use Rattle.dav_deeds.specs.declared.fault.DeskFault.TheVariants.{Memory as MemoryFault};
 ghost use Rattle.dav_deeds.specs.Sound.{IsSound};
 ghost use Rattle.dav_cache.specs.Stands.{EachImage};
 ghost use Rattle.dav_cache.specs.Recovers.{Recovers, AllRecover};
@@ -13,10 +18,13 @@ ghost use Rattle.dav_cache.specs.Opening.{IsIndexOf, IsStartFault};
 ghost use Rattle.dav_deeds.specs.Change.{IsPlan};
 ghost use Rattle.dav_desk.specs.Verdict.{with_bytes as with_bytes_lem};
 ghost use Rattle.dav_desk.specs.Ends.{IsEnd};
+ghost use Rattle.dav_desk.specs.Room.{slots as slots_lem};
 
 use crate::entry::{bytes_of, enter, told_bytes};
 use dav_cache::Recorder;
-use dav_deeds::{Answer, Ask, DeskFault, DeskTable, Made, Planned, Step, Told, Trace, Who};
+use dav_deeds::{
+    Answer, Ask, DeskFault, DeskTable, Made, Planned, Spare, Step, Told, Trace, Who, kept_spare,
+};
 use dav_disk::Disk;
 use dav_text::Blob;
 use std::alloc::Global;
@@ -52,18 +60,32 @@ fn with_bytes(answer: Result<Told, DeskFault>, bytes: Blob) -> Result<Answer, De
     }
 }
 
+// For how many steps there has to be room: the end of a job is the one for which room was left before, and any other step leaves
+// room for that.
+fn slots(told: &Option<Told>) -> usize
+    ensures { result ≡ slots_lem told.now }
+{
+    match told {
+        Some(Told::Settled(_)) => 1,
+        _ => 2,
+    }
+}
+
 /// A desk: the table of the files that it keeps, and the disk on which each of its steps stands.
 #[derive(Drop)]
 pub struct Desk<D> {
     alloc: Global,
     recorder: Recorder<D>,
     table: DeskTable,
+    /// What the end of the job in flight needs.
+    spare: Option<Spare>,
 }
 
 impl<D: Disk> Desk<D> {
     ghost use Rattle.dav_desk.specs.Ended.{IsAsked};
     ghost use Rattle.dav_cache.specs.Files.{ChangesOnly};
     ghost use Rattle.dav_desk.specs.Changed.{ChangesAsked, IsPut};
+    ghost use Rattle.dav_desk.specs.Room.{IsHeldFor};
     ghost use Rattle.dav_desk.specs.Working.{IsReadied, IsWorking, IsStopped, AreGiven, HasBytes, HasSum};
 
     /// Starts a desk over the index of a disk for a URL. Where nothing stands there an index is made. Answers `NotACache` with
@@ -90,6 +112,7 @@ impl<D: Disk> Desk<D> {
                 alloc,
                 recorder,
                 table: DeskTable::start(alloc, index),
+                spare: None,
             }),
             Err(both) => Err(both),
         }
@@ -99,7 +122,8 @@ impl<D: Disk> Desk<D> {
     /// on the disk, or in neither: a stop at any moment leaves the table from before or from after it. Then the step stands in
     /// the trace, a refused one too; a take that finds nothing is no step. Answers `Disk` where the disk failed, and `Damaged`
     /// where the bytes of the job are not those that were kept. The desk is dead then, answers the same again, and does nothing
-    /// any more. Answers `Memory` only before the first device call, and nothing is changed then.
+    /// any more. Answers `Memory` only before the first device call, and nothing is changed then; never to the end of the job in
+    /// flight, which uses the memory that was taken with the job.
     pub fn step(&mut self, who: Who, ask: &Ask, now: u64) -> Result<Answer, DeskFault>
         requires ask { IsAsk ask.now }
         requires readied { IsReadied D.honest D.moment D.seen D.past self.old }
@@ -115,6 +139,7 @@ impl<D: Disk> Desk<D> {
         ensures readied { IsReadied D.honest D.moment D.seen D.past self.new }
         ensures changes { D.honest → ChangesAsked D.moment D.seen D.past now ask.now self.old self.new }
         ensures put { D.honest → OnOk result (IsPut D.moment D.seen D.past now ask.now self.old self.new) }
+        ensures ends { ends_job self.old.table.job ask.now ≡ true → IfErr result (λ e. e ≢ MemoryFault) }
         ensures faults { D.faults self.old.recorder.disk ≤ D.faults self.new.recorder.disk }
     {
         let _ = self.table.index();
@@ -122,18 +147,35 @@ impl<D: Disk> Desk<D> {
             return Err(again(fault));
         }
         let mut row = Vec::new(self.alloc);
+        if self.table.ends_job(ask) {
+            let Some(spare) = self.spare.take() else {
+                unreachable!();
+            };
+            let planned = self.table.plan_end(who, ask, now, spare, &mut row);
+            return self.carry_out(planned, None, ask, row.as_slice());
+        }
         let Some(planned) = self.table.plan(who, ask, now, &mut row)? else {
             return Ok(Answer::Idle);
         };
-        self.carry_out(planned, ask, row.as_slice())
+        let saved = self.table.save(&planned.made.step.told)?;
+        self.carry_out(planned, saved, ask, row.as_slice())
     }
 
-    // Puts the step that the ask is on the disk, and then makes its change of the table.
-    fn carry_out(&mut self, planned: Planned, ask: &Ask, row: &[u8]) -> Result<Answer, DeskFault>
+    // Puts the step that the ask is on the disk, and then makes its change of the table. What was saved for the end of the job is
+    // kept with it.
+    fn carry_out(
+        &mut self,
+        planned: Planned,
+        saved: Option<Spare>,
+        ask: &Ask,
+        row: &[u8],
+    ) -> Result<Answer, DeskFault>
         requires alive { self.old.recorder.dead ≡ None }
         requires sound { IsSound self.old.table }
         requires plan { IsPlan self.old.table planned.made.step.who planned.made.step.now ask.now (Some planned) row.now }
-        requires readied { IsReadied D.honest D.moment D.seen D.past self.old }
+        requires ready { D.honest → IsReady (journal_end self.old.recorder.journal) (D.seen self.old.recorder.disk 0) (D.past self.old.recorder.disk (D.moment self.old.recorder.disk) 0) }
+        requires held { IsHeldFor planned.made.step.told self.old }
+        requires next { HasSpare (after self.old.table planned.made.step.now (deed_of self.old.table ask.now)) (kept_spare_lem saved self.old.spare) }
 
         ensures asked { IsAsked D.honest D.moment D.seen D.faults planned.made.step.who planned.made.step.now ask.now self.old self.new result }
         ensures working { D.honest → (url : List ℕ) (opening : DeskTable) (start : ℕ) (given : ℕ → List ℕ) → AreGiven self.old.table given ask.now → IsWorking D.moment D.seen D.past url opening start given self.old
@@ -146,6 +188,7 @@ impl<D: Disk> Desk<D> {
         ensures readied { IsReadied D.honest D.moment D.seen D.past self.new }
         ensures changes { D.honest → ChangesAsked D.moment D.seen D.past planned.made.step.now ask.now self.old self.new }
         ensures put { D.honest → OnOk result (IsPut D.moment D.seen D.past planned.made.step.now ask.now self.old self.new) }
+        ensures ends { (fated : Fated) → planned.made.step.told ≡ Some (Settled fated) → IfErr result (λ e. e ≢ MemoryFault) }
         ensures faults { D.faults self.old.recorder.disk ≤ D.faults self.new.recorder.disk }
     {
         let Planned { made, change } = planned;
@@ -154,7 +197,7 @@ impl<D: Disk> Desk<D> {
             answer,
             released,
         } = made;
-        self.recorder.reserve()?;
+        self.recorder.reserve(slots(&step.told))?;
         let bytes = match told_bytes(self.alloc, &mut self.recorder, &step.told) {
             Ok(bytes) => bytes,
             Err(fault) => return Err(fault),
@@ -170,6 +213,7 @@ impl<D: Disk> Desk<D> {
             Err(fault) => return Err(fault),
         }
         self.table.apply(change);
+        self.spare = kept_spare(saved, self.spare.take());
         with_bytes(answer, bytes)
     }
 

@@ -107,6 +107,7 @@ pub(crate) fn enter<D: Disk>(
     ensures changes { D.honest → ChangesOnly D.moment D.seen D.past (IsWritten (file_in (new_body step.deed)) freed.now) recorder.old.disk recorder.new.disk }
     ensures stored { D.honest → OnOk result (row.now ≢ [] → IsStored (file_in (new_body step.deed)) bytes.now freed.now (D.seen recorder.new.disk) (D.past recorder.new.disk (D.moment recorder.new.disk))) }
     ensures emptied { D.honest → OnOk result (AreEmpty freed.now (D.seen recorder.new.disk) (D.past recorder.new.disk (D.moment recorder.new.disk))) }
+    ensures capacity { vec_capacity recorder.old.trace.steps ≤ vec_capacity recorder.new.trace.steps }
     ensures faults { D.faults recorder.old.disk ≤ D.faults recorder.new.disk }
 {
     if row.is_empty() {

@@ -34,6 +34,10 @@ seen_text Absent = 1 ∷ []
 seen_text Untagged = 2 ∷ []
 seen_text (Tagged tag) = 3 ∷ length tag ∷ tag
 
+-- the text of a record that bytes were sent, up to what is known of the file since
+abbrev pub sent_begun : PathParts → ℕ → List ℕ
+sent_begun path file = 4 ∷ path_text path ++ four_bytes file
+
 -- the flags of what is forgotten: 1 for locks, 2 for what stands below
 abbrev pub flags_of : Bool → Bool → ℕ
 flags_of locks below = (if locks then 1 else 0) + (if below then 2 else 0)

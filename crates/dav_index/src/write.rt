@@ -1,12 +1,41 @@
-ghost use Rattle.std.specs.Prelude.{◌≡◌, ◌<◌, ◌^◌, ◌++◌, ◌∷◌, [], length, OnOk, OnErr};
+ghost use Rattle.std.specs.Prelude.{◌≡◌, ◌+◌, ◌<◌, ◌≤◌, ◌^◌, ◌++◌, ◌∷◌, [], length, OnOk, OnErr, vec_len, vec_capacity};
 ghost use Rattle.dav_text.specs.Path.{escaped, BeginsWith};
-ghost use Rattle.dav_index.specs.Records.{IsRecord, IsNoted, text_of, path_text, body_text, seen_text, flags_of as flags_of_lem, bit_of, four_bytes, eight_bytes};
+ghost use Rattle.dav_index.specs.Records.{IsRecord, IsNoted, text_of, sent_begun, path_text, body_text, seen_text, flags_of as flags_of_lem, bit_of, four_bytes, eight_bytes};
 
 use crate::record::Record;
 use dav_store::BodyId;
 use dav_text::{Memory, Path, Seen};
 
 impl Record {
+    /// How many bytes the text of what is known of a file has at most.
+    pub const SEEN_MAX: usize = 130;
+
+    /// Writes the text of a `Sent` record up to what is known of the file. On an error a part of it may
+    /// stand behind what was there.
+    pub fn begin_sent(path: &Path, file: u32, out: &mut Vec<u8>) -> Result<(), Memory>
+        requires { length (escaped path.now) < 65536 }
+        ensures ok { OnOk result (out.new.items ≡ out.old.items ++ sent_begun path.now file) }
+        ensures err { OnErr result (BeginsWith out.old.items out.new.items) }
+    {
+        out.push(4)?;
+        append_path(path, out)?;
+        append_number(file, out)
+    }
+
+    /// Writes the rest of the text of a `Sent` record, for which there is room. Takes no memory.
+    pub fn end_sent(seen: &Seen, out: &mut Vec<u8>)
+        requires noted { IsNoted seen.now }
+        requires room { vec_len out.old + 130 ≤ vec_capacity out.old }
+        ensures { out.new.items ≡ out.old.items ++ seen_text seen.now }
+    {
+        match seen {
+            Seen::Unknown => {}
+            Seen::Absent => out.push_reserved(1),
+            Seen::Untagged => out.push_reserved(2),
+            Seen::Tagged(tag) => put_tag(tag.as_slice(), out),
+        }
+    }
+
     /// Writes the record's text at the end of `out`. On an error nothing is written.
     pub fn write(&self, out: &mut Vec<u8>) -> Result<(), Memory>
         requires { IsRecord self.now }
@@ -70,10 +99,10 @@ fn append_sent(path: &Path, file: u32, seen: &Seen, out: &mut Vec<u8>) -> Result
     ensures ok { OnOk result (out.new.items ≡ out.old.items ++ text_of (Record.Sent path.now file seen.now)) }
     ensures err { OnErr result (BeginsWith out.old.items out.new.items) }
 {
-    out.push(4)?;
-    append_path(path, out)?;
-    append_number(file, out)?;
-    append_seen(seen, out)
+    Record::begin_sent(path, file, out)?;
+    out.reserve(Record::SEEN_MAX)?;
+    Record::end_sent(seen, out);
+    Ok(())
 }
 
 fn append_lost(number: u32, path: &Path, stays: bool, out: &mut Vec<u8>) -> Result<(), Memory>
@@ -122,23 +151,17 @@ fn append_body(body: &BodyId, out: &mut Vec<u8>) -> Result<(), Memory>
     Ok(())
 }
 
-fn append_seen(seen: &Seen, out: &mut Vec<u8>) -> Result<(), Memory>
-    requires { IsNoted seen.now }
-    ensures ok { OnOk result (out.new.items ≡ out.old.items ++ seen_text seen.now) }
-    ensures err { OnErr result (BeginsWith out.old.items out.new.items) }
+// Writes a tag that there is, with its length.
+fn put_tag(tag: &[u8], out: &mut Vec<u8>)
+    requires short { length tag.now ≤ 128 }
+    requires room { vec_len out.old + 130 ≤ vec_capacity out.old }
+    ensures { out.new.items ≡ out.old.items ++ 3 ∷ length tag.now ∷ tag.now }
 {
-    match seen {
-        Seen::Unknown => {}
-        Seen::Absent => out.push(1)?,
-        Seen::Untagged => out.push(2)?,
-        Seen::Tagged(tag) => {
-            let bytes = tag.as_slice();
-            out.push(3)?;
-            out.push(bytes.len() as u8)?;
-            out.extend_from_slice(bytes)?;
-        }
-    }
-    Ok(())
+    out.push_reserved(3);
+    out.push_reserved(tag.len() as u8);
+    let Ok(()) = out.extend_from_slice(tag) else {
+        unreachable!();
+    };
 }
 
 // Writes the number in four bytes, the highest first.

@@ -1,4 +1,4 @@
-use Rattle.std.proofs.Common.{◌≡◌, ◌≢◌, inr, ℕ, List, [], Option, rules, sym, subst}
+use Rattle.std.proofs.Common.{◌≡◌, ◌≢◌, inr, ℕ, [], Option, sym, subst}
 use Rattle.dav_cache.specs.Planned.{IsPlanned}
 use Rattle.dav_deeds.specs.Legal.{new_body, table_after}
 use Rattle.dav_desk.proofs.Entering.{entry_planned, entry_quiet, row_empty, row_full}

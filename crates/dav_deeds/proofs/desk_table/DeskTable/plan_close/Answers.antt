@@ -1,15 +1,12 @@
-use Rattle.std.proofs.Common.{rules, ◌≡◌, ℕ, Option, Some, None, false, refl, sym, ◌∙◌, ap, subst}
+use Rattle.std.proofs.Common.{rules, ℕ, Option, Some, false, refl, sym, ◌∙◌, ap, subst}
 use Rattle.dav_index.specs.Records.{IsRecord, text_of}
 use Rattle.dav_deeds.specs.Sound.{IsSound}
 use Rattle.dav_deeds.proofs.Sounds.{closed_record}
-use Rattle.dav_index.specs.declared.entry.Waiting.{Waiting}
 use Rattle.dav_index.specs.declared.record.Record.TheVariants as records
-use Rattle.dav_index.specs.declared.table.Table.{Table}
 use Rattle.dav_text.specs.Path.{PathParts}
 use Rattle.dav_deeds.specs.Change.{CanNote}
 use Rattle.dav_deeds.specs.declared.deed.Deed.TheVariants as deeds
 use Rattle.dav_deeds.specs.declared.deed.Mark.TheVariants as marks
-use Rattle.dav_deeds.specs.declared.deed.Step.{Step}
 use Rattle.dav_deeds.specs.declared.answer.Told.TheVariants as answers
 use Rattle.dav_deeds.specs.declared.fault.DeskFault.{DeskFault}
 use Rattle.dav_deeds.specs.declared.made.Made.{Made}

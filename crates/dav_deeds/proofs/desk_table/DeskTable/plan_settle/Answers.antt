@@ -6,6 +6,7 @@ use Rattle.dav_deeds.specs.declared.fault.DeskFault.TheVariants.{NoSuchJob}
 use Rattle.dav_deeds.specs.Effects.{quiet, settle_by_fate, fated_of}
 use Rattle.dav_deeds.specs.Change.{IsPlannedBy}
 use Rattle.dav_deeds.specs.DeskTable.{DeskTable}
+use Rattle.dav_deeds.specs.Sound.{IsFlightWithin, IsJobWithin}
 use Rattle.dav_deeds.specs.declared.answer.Flight.{Flight}
 use Rattle.dav_deeds.proofs.Making.{settle_is, no_job}
 use Rattle.dav_deeds.proofs.desk_table.DeskTable.plan_settle.Goals as goal
@@ -30,8 +31,13 @@ returns-then-flight-job c =
     c.if-flight-job.true (ap (λ (f : Flight). f.number) eq ∙ same))
     c.requires.blank (subst (λ (d : Done). IsPlannedBy c.args.self.now c.args.who c.args.now (deeds.Settle c.args.job d) (quiet c.args.self.now (marks.Refused (NoSuchJob c.args.job)) None) c.in_ok-planned-2.planned []) c.copy.ensures c.in_ok-planned-2.ensures)
 
+pub new-requires-clause-bare : goal.new-requires-clause-bare
+new-requires-clause-bare c =
+    let within : IsFlightWithin c.in-Some.flight c.self.inside.index = subst (λ (job : Option Flight). IsJobWithin job c.self.inside.index) c.in-Some.is c.self.invariant.job in
+    within.bare
+
 pub returns : goal.returns
 returns c =
-    settle_is c.args.self.now c.args.who c.args.now c.args.job c.args.done.now c.in-Some.flight c.in_ok-planned-3.planned c.plan_land.new.row.items
+    settle_is c.args.self.now c.args.who c.args.now c.args.job c.args.done.now c.in-Some.flight c.land.result c.land.new.row.items
     (sym (ap (λ (t : DeskTable). t.job) c.self.view_is) ∙ c.in-Some.is) c.if-flight-job.false
-    (subst (λ (d : Done). IsPlannedBy c.args.self.now c.args.who c.args.now (deeds.Settle c.args.job d) (settle_by_fate c.args.self.now c.in-Some.flight c.args.done.now (fated_of c.args.self.now.index c.in-Some.flight c.args.now c.args.done.now)) c.in_ok-planned-3.planned c.plan_land.new.row.items) c.copy.ensures c.in_ok-planned-3.ensures)
+    (subst (λ (d : Done). IsPlannedBy c.args.self.now c.args.who c.args.now (deeds.Settle c.args.job d) (settle_by_fate c.args.self.now c.in-Some.flight c.args.done.now (fated_of c.args.self.now.index c.in-Some.flight c.args.now c.args.done.now)) c.land.result c.land.new.row.items) c.copy.ensures c.land.ensures)

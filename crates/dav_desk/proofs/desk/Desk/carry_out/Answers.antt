@@ -1,13 +1,20 @@
-use Rattle.std.proofs.Common.{rules, ◌≡◌, ℕ, ◌<◌, List, length, Option, Some, None, refl, sym, ◌∙◌, ap, subst}
-use Rattle.std.specs.Prelude.{vec_capacity}
+use Rattle.std.proofs.Common.{rules, ◌≡◌, ◌≢◌, Result, ℕ, ◌<◌, arith, List, length, Option, Some, sym, ◌∙◌, ap, subst}
+use Rattle.std.specs.Prelude.{IfErr, vec_capacity}
+use Rattle.std.proofs.lemmas.Bool.{false≢true}
 use Rattle.std.proofs.lemmas.Result.{err_from_is_err_and}
 use Rattle.dav_deeds.specs.DeskTable.{DeskTable}
-use Rattle.dav_deeds.specs.Effects.{effect_of}
+use Rattle.dav_deeds.specs.Effects.{after, effect_of}
 use Rattle.dav_deeds.specs.Legal.{deed_of, new_body}
 use Rattle.dav_deeds.specs.Sound.{IsSound}
 use Rattle.dav_deeds.specs.declared.answer.Answer.{Answer}
 use Rattle.dav_deeds.specs.declared.answer.Told.{Told}
-use Rattle.dav_deeds.specs.declared.answer.Told.TheVariants.{Took}
+use Rattle.dav_deeds.specs.declared.answer.Told.TheVariants.{Took, Settled}
+use Rattle.dav_deeds.specs.declared.fault.DeskFault.{DeskFault}
+use Rattle.dav_deeds.specs.declared.fault.DeskFault.TheVariants.{Disk, Memory}
+use Rattle.dav_deeds.specs.declared.spare.Spare.{Spare}
+use Rattle.dav_deeds.specs.Made.{answer_by}
+use Rattle.dav_deeds.specs.Spare.{HasSpare, kept_spare}
+use Rattle.dav_desk.specs.Verdict.{with_bytes}
 use Rattle.dav_deeds.specs.declared.deed.Deed.{Deed}
 use Rattle.dav_deeds.specs.declared.deed.Step.{Step}
 use Rattle.dav_deeds.specs.declared.deed.Trace.{Trace}
@@ -15,6 +22,7 @@ use Rattle.dav_deeds.proofs.Sounds.{after_sound}
 use Rattle.dav_cache.specs.declared.recorder.Recorder.{Recorder}
 use Rattle.dav_desk.specs.Working.{IsWorking, HasBytes, HasSum}
 use Rattle.dav_desk.proofs.Carrying.{Base, Read, Stood, starved_asked, starved_readied, starved_faults, starved_works, starved_lives_on, missing_asked, missing_readied, read_faults, read_works, read_left, read_entry, read_named, lives, lives_read, entered_faults, failed_asked, failed_readied, failed_not_alive, went_asked, went_readied, went_works, went_lives_on}
+use Rattle.dav_desk.proofs.Rooming.{held_slot, one_slot}
 use Rattle.dav_desk.proofs.Entering.{row_fits, new_begins, freed_begin}
 use Rattle.dav_desk.proofs.Going.{records_reserved, answer_has, job_bytes, job_sum}
 use Rattle.dav_cache.proofs.Filing.{changes_none}
@@ -26,20 +34,20 @@ use Rattle.dav_desk.proofs.desk.Desk.carry_out.Goals as goal
 pub returns-in_err-reserve-clause-asked : goal.returns-in_err-reserve-clause-asked
 returns-in_err-reserve-clause-asked g c =
     let b : Base g.D.Disk.honest g.D.Disk.moment g.D.Disk.seen g.D.Disk.past c.args.self.now c.args.ask.now c.args.planned c.args.row.now c.reserve.new.self =
-    record { alive = c.requires.alive; sound = c.requires.sound; plan = c.requires.plan; readied = c.requires.readied; rest = c.reserve.ensures.rest; room = c.reserve.ensures.items } in
+    record { alive = c.requires.alive; sound = c.requires.sound; plan = c.requires.plan; ready = c.requires.ready; held = c.requires.held; rest = c.reserve.ensures.rest; room = c.reserve.ensures.items; more = c.reserve.ensures.capacity } in
     let p = err_from_is_err_and c.from_residual.result c.from_residual.ensures.1 in
     rw (p.1, p.2) (starved_asked g.D.Disk.honest g.D.Disk.moment g.D.Disk.seen g.D.Disk.past g.D.Disk.faults c.args.self.now c.args.ask.now c.args.planned c.args.row.now c.reserve.new.self b)
 
 pub returns-in_err-reserve-clause-working : goal.returns-in_err-reserve-clause-working
 returns-in_err-reserve-clause-working g c h url opening start given has is dead =
     let b : Base g.D.Disk.honest g.D.Disk.moment g.D.Disk.seen g.D.Disk.past c.args.self.now c.args.ask.now c.args.planned c.args.row.now c.reserve.new.self =
-    record { alive = c.requires.alive; sound = c.requires.sound; plan = c.requires.plan; readied = c.requires.readied; rest = c.reserve.ensures.rest; room = c.reserve.ensures.items } in
+    record { alive = c.requires.alive; sound = c.requires.sound; plan = c.requires.plan; ready = c.requires.ready; held = c.requires.held; rest = c.reserve.ensures.rest; room = c.reserve.ensures.items; more = c.reserve.ensures.capacity } in
     starved_works g.D.Disk.honest g.D.Disk.moment g.D.Disk.seen g.D.Disk.past g.D.Disk.faults c.args.self.now c.args.ask.now c.args.planned c.args.row.now c.reserve.new.self b url opening start given is
 
 pub returns-in_err-reserve-clause-stopped : goal.returns-in_err-reserve-clause-stopped
 returns-in_err-reserve-clause-stopped g c h url opening start given has is dead =
     let b : Base g.D.Disk.honest g.D.Disk.moment g.D.Disk.seen g.D.Disk.past c.args.self.now c.args.ask.now c.args.planned c.args.row.now c.reserve.new.self =
-    record { alive = c.requires.alive; sound = c.requires.sound; plan = c.requires.plan; readied = c.requires.readied; rest = c.reserve.ensures.rest; room = c.reserve.ensures.items } in
+    record { alive = c.requires.alive; sound = c.requires.sound; plan = c.requires.plan; ready = c.requires.ready; held = c.requires.held; rest = c.reserve.ensures.rest; room = c.reserve.ensures.items; more = c.reserve.ensures.capacity } in
     absurd (starved_lives_on g.D.Disk.honest g.D.Disk.moment g.D.Disk.seen g.D.Disk.past g.D.Disk.faults c.args.self.now c.args.ask.now c.args.planned c.args.row.now c.reserve.new.self b dead)
 
 pub returns-in_err-reserve-clause-bytes : goal.returns-in_err-reserve-clause-bytes
@@ -59,19 +67,22 @@ returns-in_err-reserve-clause-sound g c =
 pub returns-in_err-reserve-clause-readied : goal.returns-in_err-reserve-clause-readied
 returns-in_err-reserve-clause-readied g c =
     let b : Base g.D.Disk.honest g.D.Disk.moment g.D.Disk.seen g.D.Disk.past c.args.self.now c.args.ask.now c.args.planned c.args.row.now c.reserve.new.self =
-    record { alive = c.requires.alive; sound = c.requires.sound; plan = c.requires.plan; readied = c.requires.readied; rest = c.reserve.ensures.rest; room = c.reserve.ensures.items } in
+    record { alive = c.requires.alive; sound = c.requires.sound; plan = c.requires.plan; ready = c.requires.ready; held = c.requires.held; rest = c.reserve.ensures.rest; room = c.reserve.ensures.items; more = c.reserve.ensures.capacity } in
     starved_readied g.D.Disk.honest g.D.Disk.moment g.D.Disk.seen g.D.Disk.past g.D.Disk.faults c.args.self.now c.args.ask.now c.args.planned c.args.row.now c.reserve.new.self b
+    (λ fated same.
+    let slot = held_slot c.args.self.now c.args.planned.made.step.told fated same c.requires.held in
+    false≢true (c.in_err-reserve.ensures.succeeds (omega (arith, slot, c.slots.ensures))))
 
 pub returns-in_err-reserve-clause-faults : goal.returns-in_err-reserve-clause-faults
 returns-in_err-reserve-clause-faults g c =
     let b : Base g.D.Disk.honest g.D.Disk.moment g.D.Disk.seen g.D.Disk.past c.args.self.now c.args.ask.now c.args.planned c.args.row.now c.reserve.new.self =
-    record { alive = c.requires.alive; sound = c.requires.sound; plan = c.requires.plan; readied = c.requires.readied; rest = c.reserve.ensures.rest; room = c.reserve.ensures.items } in
+    record { alive = c.requires.alive; sound = c.requires.sound; plan = c.requires.plan; ready = c.requires.ready; held = c.requires.held; rest = c.reserve.ensures.rest; room = c.reserve.ensures.items; more = c.reserve.ensures.capacity } in
     starved_faults g.D.Disk.honest g.D.Disk.moment g.D.Disk.seen g.D.Disk.past g.D.Disk.faults c.args.self.now c.args.ask.now c.args.planned c.args.row.now c.reserve.new.self b
 
 pub returns-in-Err-clause-asked : goal.returns-in-Err-clause-asked
 returns-in-Err-clause-asked g c =
     let b : Base g.D.Disk.honest g.D.Disk.moment g.D.Disk.seen g.D.Disk.past c.args.self.now c.args.ask.now c.args.planned c.args.row.now c.reserve.new.self =
-    record { alive = c.requires.alive; sound = c.requires.sound; plan = c.requires.plan; readied = c.requires.readied; rest = c.reserve.ensures.rest; room = c.reserve.ensures.items } in
+    record { alive = c.requires.alive; sound = c.requires.sound; plan = c.requires.plan; ready = c.requires.ready; held = c.requires.held; rest = c.reserve.ensures.rest; room = c.reserve.ensures.items; more = c.reserve.ensures.capacity } in
     let k : Read g.D.Disk.honest g.D.Disk.moment g.D.Disk.seen g.D.Disk.past g.D.Disk.faults c.reserve.new.self c.told_bytes.new.recorder =
     record { trace = c.told_bytes.ensures.trace; more = c.told_bytes.ensures.faults; ready = c.told_bytes.ensures.ready; live = c.told_bytes.ensures.live } in
     missing_asked g.D.Disk.honest g.D.Disk.moment g.D.Disk.seen g.D.Disk.past g.D.Disk.faults c.args.self.now c.args.ask.now c.args.planned c.args.row.now c.reserve.new.self b c.told_bytes.new.recorder k c.in-Err.fault c.in-Err.ensures.fault c.in-Err.ensures.starved c.in-Err.ensures.stopped
@@ -79,7 +90,7 @@ returns-in-Err-clause-asked g c =
 pub returns-in-Err-clause-working : goal.returns-in-Err-clause-working
 returns-in-Err-clause-working g c h url opening start given has is dead =
     let b : Base g.D.Disk.honest g.D.Disk.moment g.D.Disk.seen g.D.Disk.past c.args.self.now c.args.ask.now c.args.planned c.args.row.now c.reserve.new.self =
-    record { alive = c.requires.alive; sound = c.requires.sound; plan = c.requires.plan; readied = c.requires.readied; rest = c.reserve.ensures.rest; room = c.reserve.ensures.items } in
+    record { alive = c.requires.alive; sound = c.requires.sound; plan = c.requires.plan; ready = c.requires.ready; held = c.requires.held; rest = c.reserve.ensures.rest; room = c.reserve.ensures.items; more = c.reserve.ensures.capacity } in
     let k : Read g.D.Disk.honest g.D.Disk.moment g.D.Disk.seen g.D.Disk.past g.D.Disk.faults c.reserve.new.self c.told_bytes.new.recorder =
     record { trace = c.told_bytes.ensures.trace; more = c.told_bytes.ensures.faults; ready = c.told_bytes.ensures.ready; live = c.told_bytes.ensures.live } in
     read_works g.D.Disk.honest g.D.Disk.moment g.D.Disk.seen g.D.Disk.past g.D.Disk.faults c.args.self.now c.args.ask.now c.args.planned c.args.row.now c.reserve.new.self b c.told_bytes.new.recorder k h url opening start given is dead
@@ -87,7 +98,7 @@ returns-in-Err-clause-working g c h url opening start given has is dead =
 pub returns-in-Err-clause-stopped : goal.returns-in-Err-clause-stopped
 returns-in-Err-clause-stopped g c h url opening start given has is dead =
     let b : Base g.D.Disk.honest g.D.Disk.moment g.D.Disk.seen g.D.Disk.past c.args.self.now c.args.ask.now c.args.planned c.args.row.now c.reserve.new.self =
-    record { alive = c.requires.alive; sound = c.requires.sound; plan = c.requires.plan; readied = c.requires.readied; rest = c.reserve.ensures.rest; room = c.reserve.ensures.items } in
+    record { alive = c.requires.alive; sound = c.requires.sound; plan = c.requires.plan; ready = c.requires.ready; held = c.requires.held; rest = c.reserve.ensures.rest; room = c.reserve.ensures.items; more = c.reserve.ensures.capacity } in
     let k : Read g.D.Disk.honest g.D.Disk.moment g.D.Disk.seen g.D.Disk.past g.D.Disk.faults c.reserve.new.self c.told_bytes.new.recorder =
     record { trace = c.told_bytes.ensures.trace; more = c.told_bytes.ensures.faults; ready = c.told_bytes.ensures.ready; live = c.told_bytes.ensures.live } in
     read_left g.D.Disk.honest g.D.Disk.moment g.D.Disk.seen g.D.Disk.past g.D.Disk.faults c.args.self.now c.args.ask.now c.args.planned c.args.row.now c.reserve.new.self b c.told_bytes.new.recorder k h url opening start given is
@@ -99,7 +110,7 @@ returns-in-Err-clause-sound g c =
 pub returns-in-Err-clause-readied : goal.returns-in-Err-clause-readied
 returns-in-Err-clause-readied g c =
     let b : Base g.D.Disk.honest g.D.Disk.moment g.D.Disk.seen g.D.Disk.past c.args.self.now c.args.ask.now c.args.planned c.args.row.now c.reserve.new.self =
-    record { alive = c.requires.alive; sound = c.requires.sound; plan = c.requires.plan; readied = c.requires.readied; rest = c.reserve.ensures.rest; room = c.reserve.ensures.items } in
+    record { alive = c.requires.alive; sound = c.requires.sound; plan = c.requires.plan; ready = c.requires.ready; held = c.requires.held; rest = c.reserve.ensures.rest; room = c.reserve.ensures.items; more = c.reserve.ensures.capacity } in
     let k : Read g.D.Disk.honest g.D.Disk.moment g.D.Disk.seen g.D.Disk.past g.D.Disk.faults c.reserve.new.self c.told_bytes.new.recorder =
     record { trace = c.told_bytes.ensures.trace; more = c.told_bytes.ensures.faults; ready = c.told_bytes.ensures.ready; live = c.told_bytes.ensures.live } in
     missing_readied g.D.Disk.honest g.D.Disk.moment g.D.Disk.seen g.D.Disk.past g.D.Disk.faults c.args.self.now c.args.ask.now c.args.planned c.args.row.now c.reserve.new.self b c.told_bytes.new.recorder k c.in-Err.fault c.in-Err.ensures.fault c.in-Err.ensures.starved c.in-Err.ensures.stopped
@@ -107,7 +118,7 @@ returns-in-Err-clause-readied g c =
 pub returns-in-Err-clause-faults : goal.returns-in-Err-clause-faults
 returns-in-Err-clause-faults g c =
     let b : Base g.D.Disk.honest g.D.Disk.moment g.D.Disk.seen g.D.Disk.past c.args.self.now c.args.ask.now c.args.planned c.args.row.now c.reserve.new.self =
-    record { alive = c.requires.alive; sound = c.requires.sound; plan = c.requires.plan; readied = c.requires.readied; rest = c.reserve.ensures.rest; room = c.reserve.ensures.items } in
+    record { alive = c.requires.alive; sound = c.requires.sound; plan = c.requires.plan; ready = c.requires.ready; held = c.requires.held; rest = c.reserve.ensures.rest; room = c.reserve.ensures.items; more = c.reserve.ensures.capacity } in
     let k : Read g.D.Disk.honest g.D.Disk.moment g.D.Disk.seen g.D.Disk.past g.D.Disk.faults c.reserve.new.self c.told_bytes.new.recorder =
     record { trace = c.told_bytes.ensures.trace; more = c.told_bytes.ensures.faults; ready = c.told_bytes.ensures.ready; live = c.told_bytes.ensures.live } in
     read_faults g.D.Disk.honest g.D.Disk.moment g.D.Disk.seen g.D.Disk.past g.D.Disk.faults c.args.self.now c.args.ask.now c.args.planned c.args.row.now c.reserve.new.self b c.told_bytes.new.recorder k
@@ -126,16 +137,17 @@ enter-requires-clause-freed_apart g c =
 
 pub enter-requires-clause-room : goal.enter-requires-clause-room
 enter-requires-clause-room g c =
-    subst (λ (x : Trace). length x.steps.items < vec_capacity x.steps) (sym c.told_bytes.ensures.trace.0) c.in_ok-reserve.ensures.room
+    let one = one_slot c.args.planned.made.step.told in
+    subst (λ (x : Trace). length x.steps.items < vec_capacity x.steps) (sym c.told_bytes.ensures.trace.0) (omega (arith, one, c.in_ok-reserve.ensures.room, c.slots.ensures))
 
 pub enter-requires-clause-ready : goal.enter-requires-clause-ready
 enter-requires-clause-ready g c h =
-    c.told_bytes.ensures.ready h (records_reserved g.D.Disk.honest g.D.Disk.moment g.D.Disk.seen g.D.Disk.past c.args.self.now.recorder c.reserve.new.self c.reserve.ensures.rest (c.requires.readied.index h c.requires.alive))
+    c.told_bytes.ensures.ready h (records_reserved g.D.Disk.honest g.D.Disk.moment g.D.Disk.seen g.D.Disk.past c.args.self.now.recorder c.reserve.new.self c.reserve.ensures.rest (c.requires.ready h))
 
 pub returns-in-Err-enter-clause-asked : goal.returns-in-Err-enter-clause-asked
 returns-in-Err-enter-clause-asked g c =
     let b : Base g.D.Disk.honest g.D.Disk.moment g.D.Disk.seen g.D.Disk.past c.args.self.now c.args.ask.now c.args.planned c.args.row.now c.reserve.new.self =
-    record { alive = c.requires.alive; sound = c.requires.sound; plan = c.requires.plan; readied = c.requires.readied; rest = c.reserve.ensures.rest; room = c.reserve.ensures.items } in
+    record { alive = c.requires.alive; sound = c.requires.sound; plan = c.requires.plan; ready = c.requires.ready; held = c.requires.held; rest = c.reserve.ensures.rest; room = c.reserve.ensures.items; more = c.reserve.ensures.capacity } in
     let k : Read g.D.Disk.honest g.D.Disk.moment g.D.Disk.seen g.D.Disk.past g.D.Disk.faults c.reserve.new.self c.told_bytes.new.recorder =
     record { trace = c.told_bytes.ensures.trace; more = c.told_bytes.ensures.faults; ready = c.told_bytes.ensures.ready; live = c.told_bytes.ensures.live } in
     failed_asked g.D.Disk.honest g.D.Disk.moment g.D.Disk.seen g.D.Disk.past g.D.Disk.faults c.args.self.now c.args.ask.now c.args.planned c.args.row.now c.reserve.new.self b c.told_bytes.new.recorder k c.enter.new.recorder c.enter.ensures.faults c.in-Err-enter.fault c.in-Err-enter.ensures.stopped
@@ -143,7 +155,7 @@ returns-in-Err-enter-clause-asked g c =
 pub returns-in-Err-enter-clause-working : goal.returns-in-Err-enter-clause-working
 returns-in-Err-enter-clause-working g c h url opening start given has is dead =
     let b : Base g.D.Disk.honest g.D.Disk.moment g.D.Disk.seen g.D.Disk.past c.args.self.now c.args.ask.now c.args.planned c.args.row.now c.reserve.new.self =
-    record { alive = c.requires.alive; sound = c.requires.sound; plan = c.requires.plan; readied = c.requires.readied; rest = c.reserve.ensures.rest; room = c.reserve.ensures.items } in
+    record { alive = c.requires.alive; sound = c.requires.sound; plan = c.requires.plan; ready = c.requires.ready; held = c.requires.held; rest = c.reserve.ensures.rest; room = c.reserve.ensures.items; more = c.reserve.ensures.capacity } in
     let k : Read g.D.Disk.honest g.D.Disk.moment g.D.Disk.seen g.D.Disk.past g.D.Disk.faults c.reserve.new.self c.told_bytes.new.recorder =
     record { trace = c.told_bytes.ensures.trace; more = c.told_bytes.ensures.faults; ready = c.told_bytes.ensures.ready; live = c.told_bytes.ensures.live } in
     absurd (failed_not_alive g.D.Disk.honest g.D.Disk.moment g.D.Disk.seen g.D.Disk.past g.D.Disk.faults c.args.self.now c.args.ask.now c.args.planned c.args.row.now c.reserve.new.self b c.told_bytes.new.recorder k c.enter.new.recorder c.enter.ensures.faults c.in-Err-enter.ensures.stopped.1 dead)
@@ -151,7 +163,7 @@ returns-in-Err-enter-clause-working g c h url opening start given has is dead =
 pub returns-in-Err-enter-clause-stopped : goal.returns-in-Err-enter-clause-stopped
 returns-in-Err-enter-clause-stopped g c h url opening start given has is dead =
     let b : Base g.D.Disk.honest g.D.Disk.moment g.D.Disk.seen g.D.Disk.past c.args.self.now c.args.ask.now c.args.planned c.args.row.now c.reserve.new.self =
-    record { alive = c.requires.alive; sound = c.requires.sound; plan = c.requires.plan; readied = c.requires.readied; rest = c.reserve.ensures.rest; room = c.reserve.ensures.items } in
+    record { alive = c.requires.alive; sound = c.requires.sound; plan = c.requires.plan; ready = c.requires.ready; held = c.requires.held; rest = c.reserve.ensures.rest; room = c.reserve.ensures.items; more = c.reserve.ensures.capacity } in
     let k : Read g.D.Disk.honest g.D.Disk.moment g.D.Disk.seen g.D.Disk.past g.D.Disk.faults c.reserve.new.self c.told_bytes.new.recorder =
     record { trace = c.told_bytes.ensures.trace; more = c.told_bytes.ensures.faults; ready = c.told_bytes.ensures.ready; live = c.told_bytes.ensures.live } in
     c.in-Err-enter.ensures.left h url opening start given (read_entry g.D.Disk.honest g.D.Disk.moment g.D.Disk.seen g.D.Disk.past g.D.Disk.faults c.args.self.now c.args.ask.now c.args.planned c.args.row.now c.reserve.new.self b c.told_bytes.new.recorder k h url opening start given is has c.bytes_of.result.now c.as_slice.result.now c.bytes_of.ensures c.as_slice.ensures.value) (lives_read g.D.Disk.honest g.D.Disk.moment g.D.Disk.seen g.D.Disk.past g.D.Disk.faults c.args.self.now c.args.ask.now c.args.planned c.args.row.now c.reserve.new.self b c.told_bytes.new.recorder k h url opening start given is)
@@ -163,7 +175,7 @@ returns-in-Err-enter-clause-sound g c =
 pub returns-in-Err-enter-clause-readied : goal.returns-in-Err-enter-clause-readied
 returns-in-Err-enter-clause-readied g c =
     let b : Base g.D.Disk.honest g.D.Disk.moment g.D.Disk.seen g.D.Disk.past c.args.self.now c.args.ask.now c.args.planned c.args.row.now c.reserve.new.self =
-    record { alive = c.requires.alive; sound = c.requires.sound; plan = c.requires.plan; readied = c.requires.readied; rest = c.reserve.ensures.rest; room = c.reserve.ensures.items } in
+    record { alive = c.requires.alive; sound = c.requires.sound; plan = c.requires.plan; ready = c.requires.ready; held = c.requires.held; rest = c.reserve.ensures.rest; room = c.reserve.ensures.items; more = c.reserve.ensures.capacity } in
     let k : Read g.D.Disk.honest g.D.Disk.moment g.D.Disk.seen g.D.Disk.past g.D.Disk.faults c.reserve.new.self c.told_bytes.new.recorder =
     record { trace = c.told_bytes.ensures.trace; more = c.told_bytes.ensures.faults; ready = c.told_bytes.ensures.ready; live = c.told_bytes.ensures.live } in
     failed_readied g.D.Disk.honest g.D.Disk.moment g.D.Disk.seen g.D.Disk.past g.D.Disk.faults c.args.self.now c.args.ask.now c.args.planned c.args.row.now c.reserve.new.self b c.told_bytes.new.recorder k c.enter.new.recorder c.enter.ensures.faults c.in-Err-enter.ensures.stopped.1
@@ -171,7 +183,7 @@ returns-in-Err-enter-clause-readied g c =
 pub returns-in-Err-enter-clause-faults : goal.returns-in-Err-enter-clause-faults
 returns-in-Err-enter-clause-faults g c =
     let b : Base g.D.Disk.honest g.D.Disk.moment g.D.Disk.seen g.D.Disk.past c.args.self.now c.args.ask.now c.args.planned c.args.row.now c.reserve.new.self =
-    record { alive = c.requires.alive; sound = c.requires.sound; plan = c.requires.plan; readied = c.requires.readied; rest = c.reserve.ensures.rest; room = c.reserve.ensures.items } in
+    record { alive = c.requires.alive; sound = c.requires.sound; plan = c.requires.plan; ready = c.requires.ready; held = c.requires.held; rest = c.reserve.ensures.rest; room = c.reserve.ensures.items; more = c.reserve.ensures.capacity } in
     let k : Read g.D.Disk.honest g.D.Disk.moment g.D.Disk.seen g.D.Disk.past g.D.Disk.faults c.reserve.new.self c.told_bytes.new.recorder =
     record { trace = c.told_bytes.ensures.trace; more = c.told_bytes.ensures.faults; ready = c.told_bytes.ensures.ready; live = c.told_bytes.ensures.live } in
     entered_faults g.D.Disk.honest g.D.Disk.moment g.D.Disk.seen g.D.Disk.past g.D.Disk.faults c.args.self.now c.args.ask.now c.args.planned c.args.row.now c.reserve.new.self b c.told_bytes.new.recorder k c.enter.new.recorder c.enter.ensures.faults
@@ -187,7 +199,7 @@ same-bytes g c =
 pub returns-clause-asked : goal.returns-clause-asked
 returns-clause-asked g c =
     let b : Base g.D.Disk.honest g.D.Disk.moment g.D.Disk.seen g.D.Disk.past c.args.self.now c.args.ask.now c.args.planned c.args.row.now c.reserve.new.self =
-    record { alive = c.requires.alive; sound = c.requires.sound; plan = c.requires.plan; readied = c.requires.readied; rest = c.reserve.ensures.rest; room = c.reserve.ensures.items } in
+    record { alive = c.requires.alive; sound = c.requires.sound; plan = c.requires.plan; ready = c.requires.ready; held = c.requires.held; rest = c.reserve.ensures.rest; room = c.reserve.ensures.items; more = c.reserve.ensures.capacity } in
     let k : Read g.D.Disk.honest g.D.Disk.moment g.D.Disk.seen g.D.Disk.past g.D.Disk.faults c.reserve.new.self c.told_bytes.new.recorder =
     record { trace = c.told_bytes.ensures.trace; more = c.told_bytes.ensures.faults; ready = c.told_bytes.ensures.ready; live = c.told_bytes.ensures.live } in
     let m : Stood g.D.Disk.moment g.D.Disk.faults c.args.self.now c.args.ask.now c.args.planned c.reserve.new.self c.told_bytes.new.recorder c.enter.new.recorder c.apply.new.self =
@@ -197,12 +209,12 @@ returns-clause-asked g c =
       ended = c.in-Ok-enter.ensures.ended;
       applied = c.apply.ensures c.args.planned.made.step.now (deed_of c.args.self.now.table c.args.ask.now) c.requires.plan.change;
     } in
-    went_asked g.D.Disk.honest g.D.Disk.moment g.D.Disk.seen g.D.Disk.past g.D.Disk.faults c.args.self.now c.args.ask.now c.args.planned c.args.row.now c.reserve.new.self b c.told_bytes.new.recorder k c.enter.new.recorder c.apply.new.self m c.in-Ok.bytes c.with_bytes.result c.with_bytes.ensures
+    went_asked g.D.Disk.honest g.D.Disk.moment g.D.Disk.seen g.D.Disk.past g.D.Disk.faults c.args.self.now c.args.ask.now c.args.planned c.args.row.now c.reserve.new.self b c.told_bytes.new.recorder k c.enter.new.recorder c.apply.new.self c.kept_spare.result m c.in-Ok.bytes c.with_bytes.result c.with_bytes.ensures
 
 pub returns-clause-working : goal.returns-clause-working
 returns-clause-working g c h url opening start given has is dead =
     let b : Base g.D.Disk.honest g.D.Disk.moment g.D.Disk.seen g.D.Disk.past c.args.self.now c.args.ask.now c.args.planned c.args.row.now c.reserve.new.self =
-    record { alive = c.requires.alive; sound = c.requires.sound; plan = c.requires.plan; readied = c.requires.readied; rest = c.reserve.ensures.rest; room = c.reserve.ensures.items } in
+    record { alive = c.requires.alive; sound = c.requires.sound; plan = c.requires.plan; ready = c.requires.ready; held = c.requires.held; rest = c.reserve.ensures.rest; room = c.reserve.ensures.items; more = c.reserve.ensures.capacity } in
     let k : Read g.D.Disk.honest g.D.Disk.moment g.D.Disk.seen g.D.Disk.past g.D.Disk.faults c.reserve.new.self c.told_bytes.new.recorder =
     record { trace = c.told_bytes.ensures.trace; more = c.told_bytes.ensures.faults; ready = c.told_bytes.ensures.ready; live = c.told_bytes.ensures.live } in
     let m : Stood g.D.Disk.moment g.D.Disk.faults c.args.self.now c.args.ask.now c.args.planned c.reserve.new.self c.told_bytes.new.recorder c.enter.new.recorder c.apply.new.self =
@@ -212,12 +224,12 @@ returns-clause-working g c h url opening start given has is dead =
       ended = c.in-Ok-enter.ensures.ended;
       applied = c.apply.ensures c.args.planned.made.step.now (deed_of c.args.self.now.table c.args.ask.now) c.requires.plan.change;
     } in
-    went_works g.D.Disk.honest g.D.Disk.moment g.D.Disk.seen g.D.Disk.past g.D.Disk.faults c.args.self.now c.args.ask.now c.args.planned c.args.row.now c.reserve.new.self b c.told_bytes.new.recorder k c.enter.new.recorder c.apply.new.self m url opening start given is (c.in-Ok-enter.ensures.live h url opening start given (read_entry g.D.Disk.honest g.D.Disk.moment g.D.Disk.seen g.D.Disk.past g.D.Disk.faults c.args.self.now c.args.ask.now c.args.planned c.args.row.now c.reserve.new.self b c.told_bytes.new.recorder k h url opening start given is has c.bytes_of.result.now c.as_slice.result.now c.bytes_of.ensures c.as_slice.ensures.value) (lives_read g.D.Disk.honest g.D.Disk.moment g.D.Disk.seen g.D.Disk.past g.D.Disk.faults c.args.self.now c.args.ask.now c.args.planned c.args.row.now c.reserve.new.self b c.told_bytes.new.recorder k h url opening start given is))
+    went_works g.D.Disk.honest g.D.Disk.moment g.D.Disk.seen g.D.Disk.past g.D.Disk.faults c.args.self.now c.args.ask.now c.args.planned c.args.row.now c.reserve.new.self b c.told_bytes.new.recorder k c.enter.new.recorder c.apply.new.self c.kept_spare.result m url opening start given is (c.in-Ok-enter.ensures.live h url opening start given (read_entry g.D.Disk.honest g.D.Disk.moment g.D.Disk.seen g.D.Disk.past g.D.Disk.faults c.args.self.now c.args.ask.now c.args.planned c.args.row.now c.reserve.new.self b c.told_bytes.new.recorder k h url opening start given is has c.bytes_of.result.now c.as_slice.result.now c.bytes_of.ensures c.as_slice.ensures.value) (lives_read g.D.Disk.honest g.D.Disk.moment g.D.Disk.seen g.D.Disk.past g.D.Disk.faults c.args.self.now c.args.ask.now c.args.planned c.args.row.now c.reserve.new.self b c.told_bytes.new.recorder k h url opening start given is))
 
 pub returns-clause-stopped : goal.returns-clause-stopped
 returns-clause-stopped g c h url opening start given has is dead =
     let b : Base g.D.Disk.honest g.D.Disk.moment g.D.Disk.seen g.D.Disk.past c.args.self.now c.args.ask.now c.args.planned c.args.row.now c.reserve.new.self =
-    record { alive = c.requires.alive; sound = c.requires.sound; plan = c.requires.plan; readied = c.requires.readied; rest = c.reserve.ensures.rest; room = c.reserve.ensures.items } in
+    record { alive = c.requires.alive; sound = c.requires.sound; plan = c.requires.plan; ready = c.requires.ready; held = c.requires.held; rest = c.reserve.ensures.rest; room = c.reserve.ensures.items; more = c.reserve.ensures.capacity } in
     let k : Read g.D.Disk.honest g.D.Disk.moment g.D.Disk.seen g.D.Disk.past g.D.Disk.faults c.reserve.new.self c.told_bytes.new.recorder =
     record { trace = c.told_bytes.ensures.trace; more = c.told_bytes.ensures.faults; ready = c.told_bytes.ensures.ready; live = c.told_bytes.ensures.live } in
     let m : Stood g.D.Disk.moment g.D.Disk.faults c.args.self.now c.args.ask.now c.args.planned c.reserve.new.self c.told_bytes.new.recorder c.enter.new.recorder c.apply.new.self =
@@ -227,12 +239,12 @@ returns-clause-stopped g c h url opening start given has is dead =
       ended = c.in-Ok-enter.ensures.ended;
       applied = c.apply.ensures c.args.planned.made.step.now (deed_of c.args.self.now.table c.args.ask.now) c.requires.plan.change;
     } in
-    absurd (went_lives_on g.D.Disk.honest g.D.Disk.moment g.D.Disk.seen g.D.Disk.past g.D.Disk.faults c.args.self.now c.args.ask.now c.args.planned c.args.row.now c.reserve.new.self b c.told_bytes.new.recorder k c.enter.new.recorder c.apply.new.self m dead)
+    absurd (went_lives_on g.D.Disk.honest g.D.Disk.moment g.D.Disk.seen g.D.Disk.past g.D.Disk.faults c.args.self.now c.args.ask.now c.args.planned c.args.row.now c.reserve.new.self b c.told_bytes.new.recorder k c.enter.new.recorder c.apply.new.self c.kept_spare.result m dead)
 
 pub returns-clause-bytes : goal.returns-clause-bytes
 returns-clause-bytes g c h =
     let b : Base g.D.Disk.honest g.D.Disk.moment g.D.Disk.seen g.D.Disk.past c.args.self.now c.args.ask.now c.args.planned c.args.row.now c.reserve.new.self =
-    record { alive = c.requires.alive; sound = c.requires.sound; plan = c.requires.plan; readied = c.requires.readied; rest = c.reserve.ensures.rest; room = c.reserve.ensures.items } in
+    record { alive = c.requires.alive; sound = c.requires.sound; plan = c.requires.plan; ready = c.requires.ready; held = c.requires.held; rest = c.reserve.ensures.rest; room = c.reserve.ensures.items; more = c.reserve.ensures.capacity } in
     let k : Read g.D.Disk.honest g.D.Disk.moment g.D.Disk.seen g.D.Disk.past g.D.Disk.faults c.reserve.new.self c.told_bytes.new.recorder =
     record { trace = c.told_bytes.ensures.trace; more = c.told_bytes.ensures.faults; ready = c.told_bytes.ensures.ready; live = c.told_bytes.ensures.live } in
     answer_has (λ (a : Answer). (url : List ℕ) (opening : DeskTable) (start : ℕ) (given : ℕ → List ℕ) → IsWorking g.D.Disk.moment g.D.Disk.seen g.D.Disk.past url opening start given c.args.self.now → HasBytes given a)
@@ -252,7 +264,7 @@ returns-clause-sound g c =
 pub returns-clause-readied : goal.returns-clause-readied
 returns-clause-readied g c =
     let b : Base g.D.Disk.honest g.D.Disk.moment g.D.Disk.seen g.D.Disk.past c.args.self.now c.args.ask.now c.args.planned c.args.row.now c.reserve.new.self =
-    record { alive = c.requires.alive; sound = c.requires.sound; plan = c.requires.plan; readied = c.requires.readied; rest = c.reserve.ensures.rest; room = c.reserve.ensures.items } in
+    record { alive = c.requires.alive; sound = c.requires.sound; plan = c.requires.plan; ready = c.requires.ready; held = c.requires.held; rest = c.reserve.ensures.rest; room = c.reserve.ensures.items; more = c.reserve.ensures.capacity } in
     let k : Read g.D.Disk.honest g.D.Disk.moment g.D.Disk.seen g.D.Disk.past g.D.Disk.faults c.reserve.new.self c.told_bytes.new.recorder =
     record { trace = c.told_bytes.ensures.trace; more = c.told_bytes.ensures.faults; ready = c.told_bytes.ensures.ready; live = c.told_bytes.ensures.live } in
     let m : Stood g.D.Disk.moment g.D.Disk.faults c.args.self.now c.args.ask.now c.args.planned c.reserve.new.self c.told_bytes.new.recorder c.enter.new.recorder c.apply.new.self =
@@ -262,12 +274,14 @@ returns-clause-readied g c =
       ended = c.in-Ok-enter.ensures.ended;
       applied = c.apply.ensures c.args.planned.made.step.now (deed_of c.args.self.now.table c.args.ask.now) c.requires.plan.change;
     } in
-    went_readied g.D.Disk.honest g.D.Disk.moment g.D.Disk.seen g.D.Disk.past g.D.Disk.faults c.args.self.now c.args.ask.now c.args.planned c.args.row.now c.reserve.new.self b c.told_bytes.new.recorder k c.enter.new.recorder c.apply.new.self m c.in-Ok-enter.ensures.ready
+    went_readied g.D.Disk.honest g.D.Disk.moment g.D.Disk.seen g.D.Disk.past g.D.Disk.faults c.args.self.now c.args.ask.now c.args.planned c.args.row.now c.reserve.new.self b c.told_bytes.new.recorder k c.enter.new.recorder c.apply.new.self c.kept_spare.result m c.in-Ok-enter.ensures.ready
+    (subst (λ (o : Option Spare). HasSpare (after c.args.self.now.table c.args.planned.made.step.now (deed_of c.args.self.now.table c.args.ask.now)) o) (sym (c.kept_spare.ensures ∙ ap (kept_spare c.args.saved) c.take.ensures.value)) c.requires.next)
+    (omega (arith, c.in_ok-reserve.ensures.room, c.slots.ensures)) c.enter.ensures.capacity
 
 pub returns-clause-faults : goal.returns-clause-faults
 returns-clause-faults g c =
     let b : Base g.D.Disk.honest g.D.Disk.moment g.D.Disk.seen g.D.Disk.past c.args.self.now c.args.ask.now c.args.planned c.args.row.now c.reserve.new.self =
-    record { alive = c.requires.alive; sound = c.requires.sound; plan = c.requires.plan; readied = c.requires.readied; rest = c.reserve.ensures.rest; room = c.reserve.ensures.items } in
+    record { alive = c.requires.alive; sound = c.requires.sound; plan = c.requires.plan; ready = c.requires.ready; held = c.requires.held; rest = c.reserve.ensures.rest; room = c.reserve.ensures.items; more = c.reserve.ensures.capacity } in
     let k : Read g.D.Disk.honest g.D.Disk.moment g.D.Disk.seen g.D.Disk.past g.D.Disk.faults c.reserve.new.self c.told_bytes.new.recorder =
     record { trace = c.told_bytes.ensures.trace; more = c.told_bytes.ensures.faults; ready = c.told_bytes.ensures.ready; live = c.told_bytes.ensures.live } in
     entered_faults g.D.Disk.honest g.D.Disk.moment g.D.Disk.seen g.D.Disk.past g.D.Disk.faults c.args.self.now c.args.ask.now c.args.planned c.args.row.now c.reserve.new.self b c.told_bytes.new.recorder k c.enter.new.recorder c.enter.ensures.faults
@@ -304,3 +318,26 @@ returns-clause-put g c h =
       emptied = empty_asked c.args.self.now.table c.args.planned.made.step.now c.args.ask.now c.args.planned.made.step.deed c.bytes_of.result.now c.as_slice.result.now (ap (λ (s : Step). s.deed) c.requires.plan.step) (c.as_slice.ensures.value ∙ c.requires.plan.released)
           (g.D.Disk.seen disk) (g.D.Disk.past disk (g.D.Disk.moment disk)) (c.in-Ok-enter.ensures.emptied h);
     })
+
+pub returns-in_err-reserve-clause-ends : goal.returns-in_err-reserve-clause-ends
+returns-in_err-reserve-clause-ends g c fated same =
+    let slot = held_slot c.args.self.now c.args.planned.made.step.told fated same c.requires.held in
+    absurd (false≢true (c.in_err-reserve.ensures.succeeds (omega (arith, slot, c.slots.ensures))))
+
+pub returns-in-Err-clause-ends : goal.returns-in-Err-clause-ends
+returns-in-Err-clause-ends g c fated same want =
+    let missing = c.in-Err.ensures.fault in
+    let both : ◌≡◌ {A = Option Told} (Some (Took missing.flight)) (Some (Settled fated)) = sym missing.is_told ∙ same in
+    cc both
+
+pub returns-in-Err-enter-clause-ends : goal.returns-in-Err-enter-clause-ends
+returns-in-Err-enter-clause-ends g c fated same want =
+    let both : Disk ≡ Memory = sym c.in-Err-enter.ensures.stopped.0 ∙ want in
+    cc both
+
+pub returns-clause-ends : goal.returns-clause-ends
+returns-clause-ends g c fated same =
+    let e = effect_of c.args.self.now.table c.args.planned.made.step.now (deed_of c.args.self.now.table c.args.ask.now) in
+    let told : e.told ≡ Some (Settled fated) = sym (ap (λ (s : Step). s.told) c.requires.plan.step) ∙ same in
+    subst (λ (r : Result Answer DeskFault). IfErr r (λ fault. fault ≢ Memory))
+    (sym (c.with_bytes.ensures ∙ ap (λ (r : Result Told DeskFault). with_bytes r c.in-Ok.bytes) (c.requires.plan.answer ∙ ap (λ (o : Option Told). answer_by e.mark o) told))) tt

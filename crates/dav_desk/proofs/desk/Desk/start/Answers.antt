@@ -1,6 +1,6 @@
-use Rattle.std.proofs.Common.{◌≡◌, List, [], sym, ◌∙◌, ap}
+use Rattle.std.proofs.Common.{List, sym, ◌∙◌, ap}
 use Rattle.dav_index.specs.declared.table.Table.{Table}
-use Rattle.dav_deeds.specs.DeskTable.{DeskTable, started}
+use Rattle.dav_deeds.specs.DeskTable.{started}
 use Rattle.dav_deeds.specs.Legal.{table_after}
 use Rattle.dav_deeds.specs.declared.deed.Step.{Step}
 use Rattle.dav_desk.proofs.desk.Desk.start.Goals as goal

@@ -1,6 +1,21 @@
-use Rattle.std.proofs.Common.{◌≡◌, ℕ, Option, Some, None, OnOk, refl, sym, ◌∙◌, ap, subst}
+use Rattle.std.proofs.Common.{◌≡◌, ℕ, List, Option, Some, None, OnOk, refl, sym, ◌∙◌, ap, subst}
+use Rattle.std.proofs.lemmas.Bool.{false≢true}
+use Rattle.std.proofs.lemmas.Result.{err_from_is_err_and}
+use Rattle.dav_deeds.specs.DeskTable.{DeskTable}
+use Rattle.dav_deeds.specs.Effects.{after}
+use Rattle.dav_deeds.specs.Legal.{deed_of}
+use Rattle.dav_deeds.specs.Spare.{HasSpare, IsSaved, kept_spare}
+use Rattle.dav_deeds.specs.declared.answer.Answer.{Answer}
+use Rattle.dav_deeds.specs.declared.answer.Told.{Told}
+use Rattle.dav_deeds.proofs.Flying.{taken_within}
+use Rattle.dav_deeds.proofs.Sparing.{end_told, settled_ends, spare_after}
+use Rattle.dav_deeds.proofs.Taking.{taken_of}
+use Rattle.dav_desk.specs.declared.desk.Desk.{Desk}
+use Rattle.dav_desk.specs.Working.{IsWorking, HasBytes}
+use Rattle.dav_desk.proofs.Rooming.{end_held, end_frees, room_held}
+use Rattle.dav_desk.proofs.Telling.{took_is}
 use Rattle.dav_deeds.specs.declared.fault.DeskFault.{DeskFault}
-use Rattle.dav_desk.proofs.Asking.{asked_dead}
+use Rattle.dav_desk.proofs.Asking.{asked_dead, asked_starved}
 use Rattle.dav_cache.specs.Stands.{IsWritten}
 use Rattle.dav_cache.proofs.Filing.{changes_none}
 use Rattle.dav_deeds.specs.Change.{IsPlan}
@@ -8,7 +23,7 @@ use Rattle.dav_deeds.specs.declared.plan.Planned.{Planned}
 use Rattle.dav_deeds.specs.declared.deed.Step.{Step}
 use Rattle.dav_desk.specs.Changed.{fresh_by, freed_by, IsPut}
 use Rattle.dav_desk.specs.Entry.{bytes_in}
-use Rattle.dav_desk.proofs.Changing.{idle_frees, stored_nothing, empty_nothing}
+use Rattle.dav_desk.proofs.Changing.{idle_frees, stored_nothing, empty_nothing, ok_map, on_ok_map}
 use Rattle.dav_desk.proofs.desk.Desk.step.Goals as goal
 
 pub returns-in-Some-clause-asked : goal.returns-in-Some-clause-asked
@@ -36,8 +51,72 @@ returns-in_default-2-clause-put g c h =
       emptied = empty_nothing (freed_by t c.args.now c.args.ask.now) (g.D.Disk.seen disk) (g.D.Disk.past disk (g.D.Disk.moment disk)) nothing.1;
     }
 
+pub carry_out-requires-clause-held : goal.carry_out-requires-clause-held
+carry_out-requires-clause-held g c =
+    let old = c.args.self.now in
+    let ends = sym c.ends_job.ensures ∙ c.if-ends_job.true in
+    let told = end_told old.table c.args.now c.args.ask.now ends in
+    end_held old c.take.new.self c.args.ask.now c.plan_end-planned.result.made.step.told told.0 ends (ap (λ (s : Step). s.told) c.plan_end-planned.ensures.step ∙ told.1) (c.requires.readied.room (sym c.in_default.ensures))
+
+pub carry_out-requires-clause-next : goal.carry_out-requires-clause-next
+carry_out-requires-clause-next g c = end_frees c.args.self.now.table c.plan_end-planned.result.made.step.now c.args.ask.now c.take.new.self (sym c.ends_job.ensures ∙ c.if-ends_job.true)
+
+pub returns-then-ends_job-clause-working : goal.returns-then-ends_job-clause-working
+returns-then-ends_job-clause-working g c h url opening start given has is dead =
+    c.carry_out.ensures.working h url opening start given has (record { alive = is.alive; table = is.table; live = is.live }) dead
+
+pub returns-then-ends_job-clause-stopped : goal.returns-then-ends_job-clause-stopped
+returns-then-ends_job-clause-stopped g c h url opening start given has is dead =
+    c.carry_out.ensures.stopped h url opening start given has (record { alive = is.alive; table = is.table; live = is.live }) dead
+
+pub returns-then-ends_job-clause-bytes : goal.returns-then-ends_job-clause-bytes
+returns-then-ends_job-clause-bytes g c h =
+    let works : Desk g.row.D.Denot → Answer → Type 0 = λ (desk : Desk g.row.D.Denot) (answer : Answer). (url : List ℕ) (opening : DeskTable) (start : ℕ) (given : ℕ → List ℕ) → IsWorking g.D.Disk.moment g.D.Disk.seen g.D.Disk.past url opening start given desk → HasBytes given answer in
+    ok_map c.carry_out.result (works (record c.args.self.now { spare = c.take.new.self })) (works c.args.self.now)
+    (λ answer has url opening start given is. has url opening start given (record { alive = is.alive; table = is.table; live = is.live })) (c.carry_out.ensures.bytes h)
+
+pub returns-then-ends_job-clause-put : goal.returns-then-ends_job-clause-put
+returns-then-ends_job-clause-put g c h =
+    let put : ℕ → Desk g.row.D.Denot → Type 0 = λ (n : ℕ) (desk : Desk g.row.D.Denot). IsPut g.D.Disk.moment g.D.Disk.seen g.D.Disk.past n c.args.ask.now desk c.carry_out.new.self in
+    let same : c.plan_end-planned.result.made.step.now ≡ c.args.now = ap (λ (s : Step). s.now) c.plan_end-planned.ensures.step in
+    on_ok_map c.carry_out.result (put c.args.now (record c.args.self.now { spare = c.take.new.self })) (put c.args.now c.args.self.now) (λ is. record { stored = is.stored; emptied = is.emptied })
+    (subst (λ (n : ℕ). OnOk c.carry_out.result (put n (record c.args.self.now { spare = c.take.new.self }))) same (c.carry_out.ensures.put h))
+
+pub returns-then-ends_job-clause-ends : goal.returns-then-ends_job-clause-ends
+returns-then-ends_job-clause-ends g c ends =
+    let told = end_told c.args.self.now.table c.args.now c.args.ask.now ends in
+    c.carry_out.ensures.ends told.0 (ap (λ (s : Step). s.told) c.plan_end-planned.ensures.step ∙ told.1)
+
+pub save-requires : goal.save-requires
+save-requires g c =
+    let t = c.args.self.now.table in
+    let plan : IsPlan t c.args.who c.args.now c.args.ask.now (Some c.in-Some-2.planned) c.plan.new.row.items = subst (λ (p : Option Planned). IsPlan t c.args.who c.args.now c.args.ask.now p c.plan.new.row.items) c.in-Some-2.is c.in_ok-planned.ensures.plan in
+    record { bare = λ flight is. (taken_within t.index flight c.index.ensures.sound.index (taken_of t c.args.now flight (took_is t c.args.now c.args.ask.now flight (sym (ap (λ (s : Step). s.told) plan.step) ∙ is))).1).bare }
+
+pub returns-in_err-saved-clause-asked : goal.returns-in_err-saved-clause-asked
+returns-in_err-saved-clause-asked g c =
+    let p = err_from_is_err_and c.from_residual-in_err-saved.result c.from_residual-in_err-saved.ensures.1 in
+    rw (p.1, p.2) (asked_starved g.D.Disk.honest g.D.Disk.moment g.D.Disk.seen g.D.Disk.faults c.args.who c.args.now c.args.ask.now c.args.self.now c.args.self.now (sym c.in_default.ensures) refl refl refl refl refl)
+
+pub carry_out-requires-2-clause-held : goal.carry_out-requires-2-clause-held
+carry_out-requires-2-clause-held g c =
+    let t = c.args.self.now.table in
+    let plan : IsPlan t c.args.who c.args.now c.args.ask.now (Some c.in-Some-2.planned) c.plan.new.row.items = subst (λ (p : Option Planned). IsPlan t c.args.who c.args.now c.args.ask.now p c.plan.new.row.items) c.in-Some-2.is c.in_ok-planned.ensures.plan in
+    room_held c.args.self.now c.in-Some-2.planned.made.step.told
+    (λ fated same. false≢true (sym c.if-ends_job.false ∙ c.ends_job.ensures ∙ settled_ends t c.args.now c.args.ask.now fated (sym (ap (λ (s : Step). s.told) plan.step) ∙ same)))
+    (c.requires.readied.room (sym c.in_default.ensures))
+
+pub carry_out-requires-2-clause-next : goal.carry_out-requires-2-clause-next
+carry_out-requires-2-clause-next g c =
+    let t = c.args.self.now.table in
+    let old = c.args.self.now.spare in
+    let saved = c.in_ok-saved.saved in
+    let plan : IsPlan t c.args.who c.args.now c.args.ask.now (Some c.in-Some-2.planned) c.plan.new.row.items = subst (λ (p : Option Planned). IsPlan t c.args.who c.args.now c.args.ask.now p c.plan.new.row.items) c.in-Some-2.is c.in_ok-planned.ensures.plan in
+    subst (λ (n : ℕ). HasSpare (after t n (deed_of t c.args.ask.now)) (kept_spare saved old)) (sym (ap (λ (s : Step). s.now) plan.step))
+    (spare_after t c.args.now (deed_of t c.args.ask.now) old saved (c.requires.readied.room (sym c.in_default.ensures)).spare (subst (λ (o : Option Told). IsSaved t.index o saved) (ap (λ (s : Step). s.told) plan.step) c.in_ok-saved.ensures.saved))
+
 pub returns-clause-put : goal.returns-clause-put
 returns-clause-put g c h =
     let t = c.args.self.now.table in
     let plan : IsPlan t c.args.who c.args.now c.args.ask.now (Some c.in-Some-2.planned) c.plan.new.row.items = subst (λ (p : Option Planned). IsPlan t c.args.who c.args.now c.args.ask.now p c.plan.new.row.items) c.in-Some-2.is c.in_ok-planned.ensures.plan in
-    subst (λ (n : ℕ). OnOk c.carry_out.result (IsPut g.D.Disk.moment g.D.Disk.seen g.D.Disk.past n c.args.ask.now c.args.self.now c.carry_out.new.self)) (ap (λ (s : Step). s.now) plan.step) (c.carry_out.ensures.put h)
+    subst (λ (n : ℕ). OnOk c.carry_out-2.result (IsPut g.D.Disk.moment g.D.Disk.seen g.D.Disk.past n c.args.ask.now c.args.self.now c.carry_out-2.new.self)) (ap (λ (s : Step). s.now) plan.step) (c.carry_out-2.ensures.put h)
