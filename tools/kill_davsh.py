@@ -19,35 +19,19 @@ import time
 import urllib.error
 import urllib.request
 
-
-def rows_of(index):
-    """The payloads of the rows that stand in an index."""
-    at = 0
-    while at < len(index) and index[at] != 0:
-        length = int.from_bytes(index[at + 1 : at + 3], "big")
-        yield index[at + 3 : at + 3 + length]
-        at += 3 + length
+from lost_files import bytes_of, read_cache
 
 
 def lost_in(folder):
     """The bytes of the lost files of a cache, as pairs of path and bytes."""
-    with open(f"{folder}/davcache/0000000000", "rb") as file:
-        index = file.read()
-    queued, lost = {}, {}
-    for row in list(rows_of(index))[1:]:
-        kind = row[0]
-        if kind == 3:
-            path = row[3 : 3 + int.from_bytes(row[1:3], "big")]
-            body = row[3 + len(path) :]
-            queued[path] = (int.from_bytes(body[:4], "big"), int.from_bytes(body[4:12], "big"))
-        elif kind == 5:
-            number = int.from_bytes(row[1:5], "big")
-            path = row[7 : 7 + int.from_bytes(row[5:7], "big")]
-            lost[number] = (path, queued[path])
+    cache = f"{folder}/davcache"
+    _, table = read_cache(cache)
     found = set()
-    for path, (number, length) in lost.values():
-        with open(f"{folder}/davcache/{number:010}", "rb") as file:
-            found.add((path.decode(), file.read(length).decode()))
+    for path, body in table.lost.values():
+        text = bytes_of(cache, body)
+        if text is None:
+            sys.exit(f"the file {body.name} does not hold the lost bytes of {path}")
+        found.add((path, text.decode()))
     return found
 
 

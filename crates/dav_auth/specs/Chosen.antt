@@ -1,11 +1,13 @@
 -- Which challenge of a list is answered: RFC 7616 sections 3.3 and 3.7.
-use Rattle.std.specs.Prelude.{◌≡◌, ℕ, Bool, true, false, ◌==◌, ◌&&◌, List, [], ◌∷◌, Option, Some, None, codes, reverse, if◌then◌else◌}
+use Rattle.std.specs.Prelude.{◌≡◌, ℕ, Bool, true, false, ◌==◌, ◌&&◌, List, [], ◌∷◌, Option, Some, None, codes, if◌then◌else◌}
 use Rattle.std.specs.List.{list_any, slice_split}
 use Rattle.std.specs.Option.{option_map}
 use Rattle.std.specs.Str.{str_eq_ignore_ascii_case}
+use Rattle.dav_text.specs.Blanks.{trimmed}
+use Rattle.dav_text.specs.declared.blanks.Blanks.TheVariants.{Field}
 use Rattle.dav_auth.specs.Algorithm.{algorithm_of, is_keyed}
 use Rattle.dav_auth.specs.Clean.{is_clean, is_clean_if_some}
-use Rattle.dav_auth.specs.Grammar.{Parameter, is_blank}
+use Rattle.dav_auth.specs.Grammar.{Parameter}
 use Rattle.dav_auth.specs.declared.algorithm.Algorithm.{Algorithm}
 use Rattle.dav_auth.specs.declared.algorithm.Algorithm.TheVariants.{Md5, Md5Sess, Sha256, Sha256Sess}
 use Rattle.dav_auth.specs.declared.algorithm.Qop.{Qop}
@@ -55,18 +57,9 @@ abbrev pub algorithm_said : Option (List ℕ) → Option (Option Algorithm)
 algorithm_said None = Some None
 algorithm_said (Some value) = option_map (λ algorithm. Some algorithm) (algorithm_named value)
 
--- the bytes from the first that is no blank on
-abbrev pub skip_blanks : List ℕ → List ℕ
-skip_blanks [] = []
-skip_blanks (b ∷ bytes) = if is_blank b then skip_blanks bytes else b ∷ bytes
-
--- the bytes without the blanks at both ends
-abbrev pub without_blanks : List ℕ → List ℕ
-without_blanks bytes = reverse (skip_blanks (reverse (skip_blanks bytes)))
-
--- the element between commas is `auth`
+-- the element between commas is `auth`, with or without blanks around it
 abbrev pub is_auth : List ℕ → Bool
-is_auth element = str_eq_ignore_ascii_case (without_blanks element) (codes "auth")
+is_auth element = str_eq_ignore_ascii_case (trimmed Field element) (codes "auth")
 
 -- `auth` is among the elements of a value
 abbrev pub lists_auth : List ℕ → Bool

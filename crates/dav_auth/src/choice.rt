@@ -1,11 +1,11 @@
-ghost use Rattle.std.specs.Prelude.{◌≡◌, reverse, codes, option_map, IfOk, MatchResult, true, false};
-ghost use Rattle.dav_auth.specs.Chosen.{parameters_in, offers_in, value_of as value_of_lem, algorithm_named as algorithm_named_lem, algorithm_said as algorithm_said_lem, skip_blanks, is_auth as is_auth_lem, lists_auth as lists_auth_lem, qop_said as qop_said_lem, challenge_of as challenge_of_lem, first_answerable, parts_of, IsUnanswered};
+ghost use Rattle.std.specs.Prelude.{◌≡◌, codes, option_map, IfOk, MatchResult, true, false};
+ghost use Rattle.dav_auth.specs.Chosen.{parameters_in, offers_in, value_of as value_of_lem, algorithm_named as algorithm_named_lem, algorithm_said as algorithm_said_lem, is_auth as is_auth_lem, lists_auth as lists_auth_lem, qop_said as qop_said_lem, challenge_of as challenge_of_lem, first_answerable, parts_of, IsUnanswered};
 
 use crate::algorithm::{Algorithm, Qop};
 use crate::challenge::Challenge;
 use crate::fault::AuthFault;
 use crate::piece::Piece;
-use dav_text::{Blob, Memory};
+use dav_text::{Blanks, Blob, Memory};
 use std::alloc::Global;
 
 /// The value of the first parameter of this name before the next scheme.
@@ -58,25 +58,11 @@ fn algorithm_said(value: Option<&Blob>) -> Option<Option<Algorithm>>
     }
 }
 
-/// The element without the blanks at both ends.
-fn without_blanks(element: &[u8]) -> &[u8]
-    ensures { result.now ≡ reverse (skip_blanks (reverse (skip_blanks element.now))) }
-{
-    let mut rest = element;
-    'front: while let [b' ' | b'\t', tail @ ..] = rest {
-        rest = tail;
-    }
-    'back: while let [front @ .., b' ' | b'\t'] = rest {
-        rest = front;
-    }
-    rest
-}
-
 /// Whether an element of a qop list is `auth`.
 fn is_auth(element: &[u8]) -> bool
     ensures { result ≡ is_auth_lem element.now }
 {
-    without_blanks(element).eq_ignore_ascii_case(b"auth")
+    Blanks::Field.trimmed(element).eq_ignore_ascii_case(b"auth")
 }
 
 /// Whether a qop list has `auth`: RFC 7616 section 3.3.

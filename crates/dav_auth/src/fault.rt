@@ -2,7 +2,6 @@ ghost use Rattle.std.specs.Prelude.{◌≡◌};
 ghost use Rattle.dav_auth.specs.declared.fault.AuthFault.TheVariants as faults;
 
 use dav_text::Memory;
-use std::alloc::AllocError;
 
 /// Why no challenge of a list can be answered.
 #[derive(Clone, Copy, Debug, PartialEq, Eq)]
@@ -24,14 +23,6 @@ impl From<Memory> for AuthFault {
     ghost from_gives = { λ _ e. e ≡ faults.Memory };
 
     fn from(_memory: Memory) -> AuthFault {
-        AuthFault::Memory
-    }
-}
-
-impl From<AllocError> for AuthFault {
-    ghost from_gives = { λ _ e. e ≡ faults.Memory };
-
-    fn from(_error: AllocError) -> AuthFault {
         AuthFault::Memory
     }
 }

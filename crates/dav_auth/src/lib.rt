@@ -28,6 +28,3 @@ pub use formulas::{answer, rspauth};
 pub use info::rspauth_of;
 pub use laws::{one_list, one_reading, quotes_undone, value_carries};
 pub use secret::Secret;
-
-#[cfg(test)]
-mod tests;

@@ -7,8 +7,6 @@ mod laws;
 mod opening;
 mod reading;
 mod recorder;
-#[cfg(test)]
-mod tests;
 
 pub use laws::{last_bytes_survive, steps_are_planned, survives_from};
 pub use recorder::Recorder;

@@ -1,7 +1,7 @@
 ghost use Rattle.std.specs.Prelude.{◌≡◌, IfOk};
 
 use dav_text::{Memory, Path, Text, Which};
-use std::alloc::{AllocError, AllocFailed, Global};
+use std::alloc::Global;
 use std::error::Error;
 use std::fmt;
 
@@ -117,28 +117,6 @@ impl From<Memory> for DeskFault {
     ghost from_gives = { λ _ e. e ≡ faults.Memory };
 
     fn from(_memory: Memory) -> DeskFault {
-        DeskFault::Memory
-    }
-}
-
-impl From<AllocError> for DeskFault {
-    ghost use Rattle.std.specs.Prelude.{◌≡◌};
-    ghost use Rattle.dav_deeds.specs.declared.fault.DeskFault.TheVariants as faults;
-
-    ghost from_gives = { λ _ e. e ≡ faults.Memory };
-
-    fn from(_error: AllocError) -> DeskFault {
-        DeskFault::Memory
-    }
-}
-
-impl<T: Drop> From<AllocFailed<T>> for DeskFault {
-    ghost use Rattle.std.specs.Prelude.{◌≡◌};
-    ghost use Rattle.dav_deeds.specs.declared.fault.DeskFault.TheVariants as faults;
-
-    ghost from_gives = { λ _ e. e ≡ faults.Memory };
-
-    fn from(_failed: AllocFailed<T>) -> DeskFault {
         DeskFault::Memory
     }
 }

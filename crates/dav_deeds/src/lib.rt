@@ -29,6 +29,3 @@ pub use laws::{
 pub use made::Made;
 pub use plan::{Change, Planned};
 pub use spare::{Spare, kept_spare};
-
-#[cfg(test)]
-mod tests;

@@ -4,8 +4,6 @@
 mod desk;
 mod entry;
 mod laws;
-#[cfg(test)]
-mod tests;
 
 pub use desk::Desk;
 pub use laws::kept_bodies_are_not_touched;

@@ -6,8 +6,6 @@ mod change;
 mod disk;
 mod image;
 mod mem_disk;
-#[cfg(test)]
-mod tests;
 
 pub use call::Call;
 pub use change::Change;

@@ -12,8 +12,6 @@ mod schedule;
 mod sink;
 mod source;
 mod stream;
-#[cfg(test)]
-mod tests;
 mod whole;
 mod wire;
 

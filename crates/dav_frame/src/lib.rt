@@ -19,6 +19,3 @@ pub use fields::{FieldName, Fields, is_clean};
 pub use laws::{one_outcome, pieces_join, place_of_bad_chunk, place_of_no_reply};
 pub use reader::{Progress, Reply, ReplyReader};
 pub use request::{Req, idempotent, write_request};
-
-#[cfg(test)]
-mod tests;

@@ -1,21 +1,17 @@
 -- The length of a body that the Content-Length fields state: RFC 9110 section 8.6, RFC 9112 section 6.3.
-use Rattle.std.specs.Prelude.{ℕ, ◌==◌, ◌&&◌, Bool, false, List, [], ◌∷◌, length, nat_lt, nat_le, fold, Option, Some, None, if◌then◌else◌, codes}
+use Rattle.std.specs.Prelude.{ℕ, ◌==◌, Bool, false, List, [], ◌∷◌, fold, Option, Some, None, if◌then◌else◌, codes}
 use Rattle.std.specs.List.{list_all}
-use Rattle.std.specs.Char.{is_ascii_digit}
-use Rattle.std.specs.Str.Parse.{digits_value}
 use Rattle.httparse.specs.Grammar.{trim_ows}
 use Rattle.http_header.specs.FieldValue.{FieldValue}
 use Rattle.http_header.specs.HeaderMap.{Entries}
+use Rattle.dav_text.specs.Digits.{number_of as number_up_to}
 use Rattle.dav_head.specs.Elements.{elements, parts}
 use Rattle.dav_head.specs.declared.lengths.Length.{Length}
 use Rattle.dav_head.specs.declared.lengths.Length.TheVariants.{Missing, Stated, Bad}
 
 -- the number that 1 to 15 digits write
 abbrev pub number_of : List ℕ → Option ℕ
-number_of text =
-    if nat_lt 0 (length text) && nat_le (length text) 15 && list_all is_ascii_digit text
-    then Some (digits_value 10 text)
-    else None
+number_of text = number_up_to 15 text
 
 abbrev pub is_some_number : ℕ → Option ℕ → Bool
 is_some_number n None = false

@@ -1,9 +1,13 @@
 ghost use Rattle.std.specs.Prelude.{◌≡◌, fold, codes};
 ghost use Rattle.http_header.specs.HeaderMap.{get_all};
-ghost use Rattle.dav_head.specs.Lengths.{number_of as number_of_lem, with_element as with_element_lem, with_value as with_value_lem, content_length as content_length_lem};
+ghost use Rattle.dav_head.specs.Lengths.{with_element as with_element_lem, with_value as with_value_lem, content_length as content_length_lem};
 
 use crate::elements::trimmed;
+use dav_text::number_of;
 use http_header::{CONTENT_LENGTH, HeaderMap, HeaderValue};
+
+// How many digits a length may have.
+const DIGITS_MAX: usize = 15;
 
 /// The length of a body, as the Content-Length fields of a reply state it.
 #[derive(Clone, Copy, Debug, PartialEq, Eq)]
@@ -16,28 +20,11 @@ pub enum Length {
     Bad,
 }
 
-/// The number that 1 to 15 digits write.
-fn number_of(text: &[u8]) -> Option<u64>
-    ensures { result ≡ number_of_lem text.now }
-{
-    if text.is_empty() || text.len() > 15 {
-        return None;
-    }
-    let mut number: u64 = 0;
-    for byte in text {
-        if !byte.is_ascii_digit() {
-            return None;
-        }
-        number = number * 10 + (*byte - b'0') as u64;
-    }
-    Some(number)
-}
-
 /// What is known after one element more.
 fn with_element(length: Length, element: &[u8]) -> Length
     ensures { result ≡ with_element_lem length element.now }
 {
-    match (length, number_of(trimmed(element))) {
+    match (length, number_of(trimmed(element), DIGITS_MAX)) {
         (Length::Bad, _) => Length::Bad,
         (_, None) => Length::Bad,
         (Length::Missing, Some(number)) => Length::Stated(number),

@@ -19,6 +19,3 @@ pub use lengths::{Length, content_length};
 pub use limit::{free_bytes, keep};
 pub use line::{LineState, judge_line};
 pub use trailers::{TrailersState, judge_trailers};
-
-#[cfg(test)]
-mod tests;

@@ -1,5 +1,4 @@
 use dav_text::Memory;
-use std::alloc::AllocError;
 use std::error::Error;
 use std::fmt;
 
@@ -42,17 +41,6 @@ impl From<Memory> for RecordFault {
     ghost from_gives = { λ _ e. e ≡ fault.Memory };
 
     fn from(_memory: Memory) -> RecordFault {
-        RecordFault::Memory
-    }
-}
-
-impl From<AllocError> for RecordFault {
-    ghost use Rattle.std.specs.Prelude.{◌≡◌};
-    ghost use Rattle.dav_index.specs.declared.fault.RecordFault.TheVariants as fault;
-
-    ghost from_gives = { λ _ e. e ≡ fault.Memory };
-
-    fn from(_error: AllocError) -> RecordFault {
         RecordFault::Memory
     }
 }

@@ -24,6 +24,3 @@ pub use laws::{fresh_is_within, one_text_one_record, records_are_not_refused, re
 pub use lost::{LostItem, LostList};
 pub use record::Record;
 pub use table::Table;
-
-#[cfg(test)]
-mod tests;

@@ -17,5 +17,3 @@ pub mod run;
 pub mod scope;
 pub mod section;
 pub mod tag;
-#[cfg(test)]
-mod tests;

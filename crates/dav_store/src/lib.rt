@@ -11,8 +11,6 @@ mod laws;
 mod reading;
 mod row;
 mod starting;
-#[cfg(test)]
-mod tests;
 
 pub use bodies::Bodies;
 pub use body_id::BodyId;

@@ -1,3 +1,5 @@
+pub mod Blanks
+pub mod Digits
 pub mod Escape
 pub mod Method
 pub mod Path

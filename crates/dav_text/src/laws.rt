@@ -1,7 +1,8 @@
 ghost use Rattle.std.specs.Prelude.{◌≡◌, ℕ, List, Ok};
 ghost use Rattle.std.specs.List.{All};
+ghost use Rattle.std.specs.Str.{IsUtf8};
 ghost use Rattle.dav_text.specs.Path.{PathParts, IsPath, IsSame, IsUnder, IsParent, escaped};
-ghost use Rattle.dav_text.specs.Reading.{path_of};
+ghost use Rattle.dav_text.specs.Reading.{path_of, typed_of};
 
 /// A law: the text of a path in a request is read as this path.
 pub fn reads_back()
@@ -11,6 +12,11 @@ pub fn reads_back()
 /// A law: what is read holds to what a path is.
 pub fn read_is_path()
     ensures { (text : List ℕ) (path : PathParts) → path_of text ≡ Ok path → IsPath path }
+{}
+
+/// A law: what a word of text that is typed below a path stands for holds to what a path is.
+pub fn typed_is_path()
+    ensures { (here : PathParts) (word : List ℕ) (path : PathParts) → IsPath here → IsUtf8 word → typed_of here word ≡ Ok path → IsPath path }
 {}
 
 /// A law: to have the same segments is an equivalence.

@@ -3,7 +3,7 @@ ghost use Rattle.std.specs.Prelude.{◌≡◌, ⊤, length, IfOk};
 use dav_real::FolderDisk;
 use dav_store::{Bodies, BodyId, Journal, StoreFault, head_payload};
 use dav_text::Memory;
-use std::alloc::{AllocError, Global};
+use std::alloc::Global;
 use std::io;
 use std::rt::Files;
 
@@ -29,14 +29,6 @@ impl From<Memory> for Stop {
     ghost from_gives = { λ _ _. ⊤ };
 
     fn from(_memory: Memory) -> Stop {
-        Stop::Memory
-    }
-}
-
-impl From<AllocError> for Stop {
-    ghost from_gives = { λ _ _. ⊤ };
-
-    fn from(_error: AllocError) -> Stop {
         Stop::Memory
     }
 }

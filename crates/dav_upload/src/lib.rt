@@ -9,8 +9,6 @@ mod drains;
 mod ending;
 mod exchange;
 mod laws;
-#[cfg(test)]
-mod tests;
 mod turns;
 
 pub use came::Came;

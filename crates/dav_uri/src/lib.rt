@@ -10,6 +10,3 @@ pub use base::Base;
 pub use fault::UriFault;
 pub use redirect::Follow;
 pub use target::{Target, resolve};
-
-#[cfg(test)]
-mod tests;

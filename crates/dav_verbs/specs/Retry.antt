@@ -1,19 +1,17 @@
 -- After how many seconds a request may be sent again: RFC 9110 section 10.2.3.
-use Rattle.std.specs.Prelude.{ℕ, ◌&&◌, Bool, List, length, nat_le, if◌then◌else◌, Option, Some, None, codes}
-use Rattle.std.specs.List.{list_all}
-use Rattle.std.specs.Char.{is_ascii_digit}
-use Rattle.std.specs.Str.Parse.{digits_value}
+use Rattle.std.specs.Prelude.{ℕ, List, Option, Some, None, codes}
 use Rattle.http_header.specs.FieldValue.{FieldValue}
 use Rattle.http_header.specs.HeaderMap.{Entries, get_all}
+use Rattle.dav_text.specs.Digits.{number_of}
 use Rattle.dav_verbs.specs.Only.{only_in}
 
--- digits alone, of which there are at most 9
-abbrev pub are_seconds : List ℕ → Bool
-are_seconds text = nat_le (length text) 9 && list_all is_ascii_digit text
+abbrev pub seconds_by : Option ℕ → ℕ
+seconds_by None = 0
+seconds_by (Some seconds) = seconds
 
--- the number of seconds that the text writes, and 0 where it writes none, as a date does not
+-- the number of seconds that 1 to 9 digits write, and 0 where the text is none of these, as a date is not
 abbrev pub seconds_of : List ℕ → ℕ
-seconds_of text = if are_seconds text then digits_value 10 text else 0
+seconds_of text = seconds_by (number_of 9 text)
 
 abbrev pub seconds_in : Option FieldValue → ℕ
 seconds_in None = 0

@@ -14,6 +14,3 @@ pub use laws::one_seen;
 pub use outcome::{Outcome, outcome_of};
 pub use retry::retry_after;
 pub use seen::{precondition, seen_after};
-
-#[cfg(test)]
-mod tests;

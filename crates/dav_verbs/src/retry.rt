@@ -3,6 +3,7 @@ ghost use Rattle.dav_verbs.specs.Retry.{seconds_of as seconds_of_lem, retry_afte
 
 use crate::only::only_value;
 use dav_frame::Reply;
+use dav_text::number_of;
 use http_header::RETRY_AFTER;
 
 // How many digits a waiting time may have.
@@ -12,17 +13,7 @@ const DIGITS_MAX: usize = 9;
 fn seconds_of(text: &[u8]) -> u64
     ensures { result ≡ seconds_of_lem text.now }
 {
-    if text.len() > DIGITS_MAX {
-        return 0;
-    }
-    let mut seconds: u64 = 0;
-    for byte in text {
-        if !byte.is_ascii_digit() {
-            return 0;
-        }
-        seconds = seconds * 10 + (*byte - b'0') as u64;
-    }
-    seconds
+    number_of(text, DIGITS_MAX).unwrap_or(0)
 }
 
 /// After how many seconds the reply asks for the request again: RFC 9110 section 10.2.3. It is 0 where there

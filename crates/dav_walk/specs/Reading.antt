@@ -1,37 +1,27 @@
 -- What a response says, read from its elements (RFC 4918, sections 14.24 and 14.22).
-use Rattle.std.specs.Prelude.{ℕ, ◌+◌, ◌*◌, ◌-◌, Bool, true, false, ◌&&◌, ◌==◌, nat_le, List, [], ◌∷◌, map, reverse, take, drop, Option, Some, None, is_some, option_map, bytes_eq, codes, find, filter, flat_map, if◌then◌else◌}
+use Rattle.std.specs.Prelude.{ℕ, ◌+◌, ◌-◌, Bool, true, false, ◌==◌, nat_le, List, [], ◌∷◌, map, take, drop, Option, Some, None, is_some, option_map, bytes_eq, codes, find, filter, flat_map, if◌then◌else◌}
 use Rattle.std.specs.List.{list_all}
 use Rattle.dav_doc.specs.Bytes.{is_blank}
+use Rattle.dav_text.specs.Blanks.{trimmed as without_blanks}
+use Rattle.dav_text.specs.Digits.{number_of}
+use Rattle.dav_text.specs.declared.blanks.Blanks.TheVariants.{Document}
 use Rattle.dav_walk.specs.Tree.{Item, is_dav}
-
--- the text without blanks at its front
-abbrev pub without_front : List ℕ → List ℕ
-without_front [] = []
-without_front (b ∷ s) = if is_blank b then without_front s else b ∷ s
-
--- the text without blanks at its back
-abbrev pub without_back : List ℕ → List ℕ
-without_back s = reverse (without_front (reverse s))
 
 -- the text without blanks at its ends
 abbrev pub trimmed : List ℕ → List ℕ
-trimmed s = without_back (without_front s)
+trimmed s = without_blanks Document s
 
 -- what follows the bytes before the first blank
 abbrev pub after_word : List ℕ → List ℕ
 after_word [] = []
 after_word (b ∷ s) = if is_blank b then b ∷ s else after_word s
 
-abbrev pub is_digit : ℕ → Bool
-is_digit b = nat_le 48 b && nat_le b 57
-
 abbrev pub ends_code : List ℕ → Bool
 ends_code [] = true
 ends_code (b ∷ s) = b == 32
 
 abbrev pub code_by : ℕ → ℕ → ℕ → List ℕ → Option ℕ
-code_by a b c rest =
-    if is_digit a && is_digit b && is_digit c && ends_code rest then Some (100 * (a - 48) + 10 * (b - 48) + (c - 48)) else None
+code_by a b c rest = if ends_code rest then number_of 3 (a ∷ b ∷ c ∷ []) else None
 
 -- three digits, and then the end or a space
 abbrev pub code_in : List ℕ → Option ℕ

@@ -1,52 +1,13 @@
-ghost use Rattle.std.specs.Prelude.{◌≡◌, ◌<◌, ◌≤◌, ◌-◌, ◌&&◌};
-ghost use Rattle.dav_doc.specs.Bytes.{is_blank as is_blank_lem};
-ghost use Rattle.dav_walk.specs.Reading.{without_front as without_front_lem, without_back as without_back_lem, trimmed as trimmed_lem, after_word as after_word_lem, is_digit as is_digit_lem, ends_code as ends_code_lem, code_by as code_by_lem, code_in as code_in_lem, spaced_code as spaced_code_lem, versioned_code as versioned_code_lem, code_of as code_of_lem};
+ghost use Rattle.std.specs.Prelude.{◌≡◌};
+ghost use Rattle.dav_walk.specs.Reading.{trimmed as trimmed_lem, after_word as after_word_lem, ends_code as ends_code_lem, code_by as code_by_lem, code_in as code_in_lem, spaced_code as spaced_code_lem, versioned_code as versioned_code_lem, code_of as code_of_lem};
 
-fn is_blank(byte: u8) -> bool
-    ensures { result ≡ is_blank_lem byte }
-{
-    byte == b' ' || byte == b'\t' || byte == b'\n' || byte == b'\r'
-}
-
-fn is_digit(byte: u8) -> bool
-    ensures { result ≡ is_digit_lem byte }
-{
-    byte >= b'0' && byte <= b'9'
-}
-
-/// The text without blanks at its front.
-fn without_front(text: &[u8]) -> &[u8]
-    ensures { result.now ≡ without_front_lem text.now }
-{
-    let mut rest = text;
-    while let Some((first, others)) = rest.split_first() {
-        if !is_blank(*first) {
-            return rest;
-        }
-        rest = others;
-    }
-    rest
-}
+use dav_text::{Blanks, number_of};
 
 /// The text without blanks at its ends.
 pub(crate) fn trimmed(text: &[u8]) -> &[u8]
     ensures { result.now ≡ trimmed_lem text.now }
 {
-    without_back(without_front(text))
-}
-
-/// The text without blanks at its back.
-fn without_back(text: &[u8]) -> &[u8]
-    ensures { result.now ≡ without_back_lem text.now }
-{
-    let mut rest = text;
-    while let Some((last, others)) = rest.split_last() {
-        if !is_blank(*last) {
-            return rest;
-        }
-        rest = others;
-    }
-    rest
+    Blanks::Document.trimmed(text)
 }
 
 /// What follows the bytes before the first blank.
@@ -55,7 +16,7 @@ fn after_word(text: &[u8]) -> &[u8]
 {
     let mut rest = text;
     while let Some((first, others)) = rest.split_first() {
-        if is_blank(*first) {
+        if Blanks::Document.has(*first) {
             return rest;
         }
         rest = others;
@@ -76,13 +37,11 @@ fn ends_code(rest: &[u8]) -> bool
 fn code_by(hundreds: u8, tens: u8, ones: u8, rest: &[u8]) -> Option<u16>
     ensures { result ≡ code_by_lem hundreds tens ones rest.now }
 {
-    if is_digit(hundreds) && is_digit(tens) && is_digit(ones) && ends_code(rest) {
-        let hundreds = (hundreds - b'0') as u16;
-        let tens = (tens - b'0') as u16;
-        let ones = (ones - b'0') as u16;
-        return Some(100 * hundreds + 10 * tens + ones);
+    if !ends_code(rest) {
+        return None;
     }
-    None
+    let number = number_of(&[hundreds, tens, ones], 3)?;
+    Some(number as u16)
 }
 
 /// The number of three digits and then the end or a space.
@@ -111,7 +70,7 @@ fn versioned_code(text: &[u8]) -> Option<u16>
     ensures { result ≡ versioned_code_lem text.now }
 {
     let (first, rest) = text.split_first()?;
-    if is_blank(*first) {
+    if Blanks::Document.has(*first) {
         return None;
     }
     spaced_code(after_word(rest))

@@ -1,5 +1,4 @@
 use dav_text::{Memory, Which};
-use std::alloc::AllocError;
 use std::error::Error;
 use std::fmt;
 
@@ -47,17 +46,6 @@ impl From<Memory> for WalkFault {
     ghost from_gives = { λ _ e. e ≡ faults.Memory };
 
     fn from(_memory: Memory) -> WalkFault {
-        WalkFault::Memory
-    }
-}
-
-impl From<AllocError> for WalkFault {
-    ghost use Rattle.std.specs.Prelude.{◌≡◌};
-    ghost use Rattle.dav_walk.specs.declared.fault.WalkFault.TheVariants as faults;
-
-    ghost from_gives = { λ _ e. e ≡ faults.Memory };
-
-    fn from(_error: AllocError) -> WalkFault {
         WalkFault::Memory
     }
 }

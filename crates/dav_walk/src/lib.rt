@@ -27,10 +27,3 @@ pub use node::{Node, Span};
 pub use props::{Prop, Props};
 pub use root::Root;
 pub use walker::{Walk, Walker};
-
-#[cfg(test)]
-mod replies;
-#[cfg(test)]
-mod server_tests;
-#[cfg(test)]
-mod tests;

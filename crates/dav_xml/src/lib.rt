@@ -17,8 +17,6 @@ mod position;
 mod scan;
 mod start_tag;
 mod step;
-#[cfg(test)]
-mod tests;
 mod turn;
 
 pub use document::{Document, Node};

@@ -1,34 +1,12 @@
 //! davsh: a shell for files on a WebDAV server.
 #![tactic(auto)]
 
-mod ask;
-mod cause;
-#[cfg(test)]
-mod disk_tests;
-mod ended;
-mod input;
-mod last_line;
-mod line;
-#[cfg(test)]
-mod model_tests;
-mod pending;
-mod real;
-#[cfg(test)]
-mod real_tests;
-mod shell;
-mod stop;
-#[cfg(test)]
-mod tests;
-mod whole;
-mod words;
-
-use dav_real::FolderDisk;
-use real::{ReaderSource, TcpWire, WriterSink};
+use dav_real::{FolderDisk, ReaderSource, TcpWire, WriterSink};
+use dav_run::run;
 use std::alloc::Global;
 use std::process::ExitCode;
 use std::rt::Env;
 use std::{env, fs, io};
-use whole::run;
 
 /// The folder of the cache, in the folder where the program is started.
 const CACHE: &str = "davcache";

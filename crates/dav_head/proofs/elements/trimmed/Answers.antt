@@ -1,6 +1,6 @@
-use Rattle.httparse.specs.Grammar.{trim_ows}
+use Rattle.std.proofs.Common.{◌∙◌}
+use Rattle.dav_head.proofs.BlankLemmas.{trimmed_same}
 use Rattle.dav_head.proofs.elements.trimmed.Goals as goal
 
 pub returns : goal.returns
-unfolding trim_ows
-returns c = c.between_blanks.ensures
+returns c = c.trimmed.ensures ∙ trimmed_same c.args.text.now

@@ -1,0 +1,5 @@
+use Rattle.dav_text.proofs.RoundTrip.{read_path}
+use Rattle.dav_tables.proofs.asks.path_at.Goals as goal
+
+pub returns : goal.returns
+returns c = ?
