@@ -1,5 +1,5 @@
 use Rattle.dav_text.proofs.RoundTrip.{read_path}
 use Rattle.dav_tables.proofs.asks.path_at.Goals as goal
 
-pub returns : goal.returns
-returns c = read_path c.args.text.now c.in_ok-path.path c.in_ok-path.ensures
+pub returns-in-Ok : goal.returns-in-Ok
+returns-in-Ok c = read_path c.args.text.now c.in-Ok.path c.in-Ok.ensures
