@@ -189,7 +189,7 @@ impl MemDisk {
 impl Disk for MemDisk {
     ghost use Rattle.dav_disk.specs.View.{disk_seen, disk_moment, disk_past};
 
-    ghost honest = { Unit {0} };
+    ghost honest = { λ _. Unit {0} };
 
     ghost seen = { disk_seen };
 
@@ -199,9 +199,9 @@ impl Disk for MemDisk {
 
     ghost faults = { λ d. d.faults };
 
-    ghost reads = { λ _ d f. d.exact.reads f };
+    ghost reads = { λ d _ f. d.exact.reads f };
 
-    ghost fits = { λ _ d f. d.exact.fits f };
+    ghost fits = { λ d _ f. d.exact.fits f };
 
     ghost counted = { λ d. d.exact.counted };
 
