@@ -33,18 +33,19 @@ fn keep<D: Disk>(
 ) -> Result<(), StoreFault>
     requires apart { (f : ℕ) → fresh ≡ Some f → 2 ≤ f }
 
-    ensures held { D.honest → OnOk result ((rows : List (List ℕ)) (holds holds_after : List BodyId) (given : ℕ → List ℕ) (end : ℕ) → IsAdding holds holds_after given fresh bytes.now
+    ensures held { D.honest disk.new → OnOk result ((rows : List (List ℕ)) (holds holds_after : List BodyId) (given : ℕ → List ℕ) (end : ℕ) → IsAdding holds holds_after given fresh bytes.now
         → IsSafe rows holds given end (D.seen disk.old) (D.past disk.old (D.moment disk.old))
         → IsSafe rows holds given end (D.seen disk.new) (D.past disk.new (D.moment disk.new)) × EachBody holds_after (IsHeld given (D.past disk.new (D.moment disk.new)))) }
-    ensures any_moment { D.honest → (rows : List (List ℕ)) (holds holds_after : List BodyId) (given : ℕ → List ℕ) (end : ℕ) → IsAdding holds holds_after given fresh bytes.now
+    ensures any_moment { D.honest disk.new → (rows : List (List ℕ)) (holds holds_after : List BodyId) (given : ℕ → List ℕ) (end : ℕ) → IsAdding holds holds_after given fresh bytes.now
         → IsSafe rows holds given end (D.seen disk.old) (D.past disk.old (D.moment disk.old))
         → EachImage (D.past disk.new) (D.moment disk.old) (D.moment disk.new) (Stands rows holds given) }
-    ensures ready { D.honest → (end : ℕ) → IsReady end (D.seen disk.old 0) (D.past disk.old (D.moment disk.old) 0)
+    ensures ready { D.honest disk.new → (end : ℕ) → IsReady end (D.seen disk.old 0) (D.past disk.old (D.moment disk.old) 0)
         → IsReady end (D.seen disk.new 0) (D.past disk.new (D.moment disk.new) 0) }
-    ensures touches { D.honest → Touches (IsFile fresh) (D.moment disk.old) (D.moment disk.new) (D.past disk.old) (D.past disk.new) }
-    ensures others { D.honest → RestStays (IsFile fresh) (D.seen disk.old) (D.seen disk.new) }
-    ensures stored { D.honest → OnOk result (IsStored fresh bytes.now [] (D.seen disk.new) (D.past disk.new (D.moment disk.new))) }
+    ensures touches { D.honest disk.new → Touches (IsFile fresh) (D.moment disk.old) (D.moment disk.new) (D.past disk.old) (D.past disk.new) }
+    ensures others { D.honest disk.new → RestStays (IsFile fresh) (D.seen disk.old) (D.seen disk.new) }
+    ensures stored { D.honest disk.new → OnOk result (IsStored fresh bytes.now [] (D.seen disk.new) (D.past disk.new (D.moment disk.new))) }
     ensures only { OnlyDisk result }
+    ensures keeps { D.honest disk.new → D.honest disk.old }
     ensures cause { IsCaused (D.faults disk.old) (D.faults disk.new) result }
 {
     match fresh {
@@ -64,18 +65,19 @@ pub(crate) fn release<D: Disk>(
 ) -> Result<(), StoreFault>
     requires apart { All (λ f. 2 ≤ f) freed.now }
 
-    ensures safe { D.honest → (rows : List (List ℕ)) (holds : List BodyId) (given : ℕ → List ℕ) (end : ℕ) → Spares freed.now holds
+    ensures safe { D.honest disk.new → (rows : List (List ℕ)) (holds : List BodyId) (given : ℕ → List ℕ) (end : ℕ) → Spares freed.now holds
         → IsSafe rows holds given end (D.seen disk.old) (D.past disk.old (D.moment disk.old))
         → IsSafe rows holds given end (D.seen disk.new) (D.past disk.new (D.moment disk.new)) }
-    ensures any_moment { D.honest → (rows : List (List ℕ)) (holds : List BodyId) (given : ℕ → List ℕ) (end : ℕ) → Spares freed.now holds
+    ensures any_moment { D.honest disk.new → (rows : List (List ℕ)) (holds : List BodyId) (given : ℕ → List ℕ) (end : ℕ) → Spares freed.now holds
         → IsSafe rows holds given end (D.seen disk.old) (D.past disk.old (D.moment disk.old))
         → EachImage (D.past disk.new) (D.moment disk.old) (D.moment disk.new) (Stands rows holds given) }
-    ensures ready { D.honest → (end : ℕ) → IsReady end (D.seen disk.old 0) (D.past disk.old (D.moment disk.old) 0)
+    ensures ready { D.honest disk.new → (end : ℕ) → IsReady end (D.seen disk.old 0) (D.past disk.old (D.moment disk.old) 0)
         → IsReady end (D.seen disk.new 0) (D.past disk.new (D.moment disk.new) 0) }
-    ensures touches { D.honest → Touches (Contains freed.now) (D.moment disk.old) (D.moment disk.new) (D.past disk.old) (D.past disk.new) }
-    ensures others { D.honest → RestStays (Contains freed.now) (D.seen disk.old) (D.seen disk.new) }
-    ensures emptied { D.honest → OnOk result (AreEmpty freed.now (D.seen disk.new) (D.past disk.new (D.moment disk.new))) }
+    ensures touches { D.honest disk.new → Touches (Contains freed.now) (D.moment disk.old) (D.moment disk.new) (D.past disk.old) (D.past disk.new) }
+    ensures others { D.honest disk.new → RestStays (Contains freed.now) (D.seen disk.old) (D.seen disk.new) }
+    ensures emptied { D.honest disk.new → OnOk result (AreEmpty freed.now (D.seen disk.new) (D.past disk.new (D.moment disk.new))) }
     ensures only { OnlyDisk result }
+    ensures keeps { D.honest disk.new → D.honest disk.old }
     ensures cause { IsCaused (D.faults disk.old) (D.faults disk.new) result }
 {
     for file in freed {
@@ -98,23 +100,24 @@ fn commit_rows<D: Disk>(
     requires fits { IsPayload row.now }
     requires fresh_apart { (f : ℕ) → fresh ≡ Some f → 2 ≤ f }
     requires freed_apart { All (λ f. 2 ≤ f) freed.now }
-    requires ready { D.honest → IsReady (journal_end journal.old) (D.seen disk.old 0) (D.past disk.old (D.moment disk.old) 0) }
+    requires ready { D.honest disk.old → IsReady (journal_end journal.old) (D.seen disk.old 0) (D.past disk.old (D.moment disk.old) 0) }
 
-    ensures safe { D.honest → OnOk result ((rows : List (List ℕ)) (holds holds_after : List BodyId) (given : ℕ → List ℕ) → IsCommit holds holds_after given fresh bytes.now freed.now
+    ensures safe { D.honest disk.new → OnOk result ((rows : List (List ℕ)) (holds holds_after : List BodyId) (given : ℕ → List ℕ) → IsCommit holds holds_after given fresh bytes.now freed.now
         → IsSafe rows holds given (journal_end journal.old) (D.seen disk.old) (D.past disk.old (D.moment disk.old))
         → IsSafe (rows ++ row.now ∷ []) holds_after given (journal_end journal.new) (D.seen disk.new) (D.past disk.new (D.moment disk.new))) }
-    ensures any_moment { D.honest → (rows : List (List ℕ)) (holds holds_after : List BodyId) (given : ℕ → List ℕ) → IsCommit holds holds_after given fresh bytes.now freed.now
+    ensures any_moment { D.honest disk.new → (rows : List (List ℕ)) (holds holds_after : List BodyId) (given : ℕ → List ℕ) → IsCommit holds holds_after given fresh bytes.now freed.now
         → IsSafe rows holds given (journal_end journal.old) (D.seen disk.old) (D.past disk.old (D.moment disk.old))
         → EachImage (D.past disk.new) (D.moment disk.old) (D.moment disk.new) (StandsEither rows holds (rows ++ row.now ∷ []) holds_after given) }
-    ensures before { D.honest → IfErr result (λ stop. stop ≡ Before → (rows : List (List ℕ)) (holds holds_after : List BodyId) (given : ℕ → List ℕ) → IsCommit holds holds_after given fresh bytes.now freed.now
+    ensures before { D.honest disk.new → IfErr result (λ stop. stop ≡ Before → (rows : List (List ℕ)) (holds holds_after : List BodyId) (given : ℕ → List ℕ) → IsCommit holds holds_after given fresh bytes.now freed.now
         → IsSafe rows holds given (journal_end journal.old) (D.seen disk.old) (D.past disk.old (D.moment disk.old))
         → EachImage (D.past disk.new) (D.moment disk.old) (D.moment disk.new) (Stands rows holds given)) }
-    ensures ready { D.honest → OnOk result (IsReady (journal_end journal.new) (D.seen disk.new 0) (D.past disk.new (D.moment disk.new) 0)) }
-    ensures touches { D.honest → Touches (IsWritten fresh freed.now) (D.moment disk.old) (D.moment disk.new) (D.past disk.old) (D.past disk.new) }
-    ensures others { D.honest → RestStays (IsWritten fresh freed.now) (D.seen disk.old) (D.seen disk.new) }
-    ensures early { D.honest → IfErr result (λ stop. stop ≡ Before → ChangesOnly D.moment D.seen D.past (IsFile fresh) disk.old disk.new) }
-    ensures stored { D.honest → OnOk result (IsStored fresh bytes.now freed.now (D.seen disk.new) (D.past disk.new (D.moment disk.new))) }
-    ensures emptied { D.honest → OnOk result (AreEmpty freed.now (D.seen disk.new) (D.past disk.new (D.moment disk.new))) }
+    ensures ready { D.honest disk.new → OnOk result (IsReady (journal_end journal.new) (D.seen disk.new 0) (D.past disk.new (D.moment disk.new) 0)) }
+    ensures touches { D.honest disk.new → Touches (IsWritten fresh freed.now) (D.moment disk.old) (D.moment disk.new) (D.past disk.old) (D.past disk.new) }
+    ensures others { D.honest disk.new → RestStays (IsWritten fresh freed.now) (D.seen disk.old) (D.seen disk.new) }
+    ensures early { D.honest disk.new → IfErr result (λ stop. stop ≡ Before → ChangesOnly D.moment D.seen D.past (IsFile fresh) disk.old disk.new) }
+    ensures stored { D.honest disk.new → OnOk result (IsStored fresh bytes.now freed.now (D.seen disk.new) (D.past disk.new (D.moment disk.new))) }
+    ensures emptied { D.honest disk.new → OnOk result (AreEmpty freed.now (D.seen disk.new) (D.past disk.new (D.moment disk.new))) }
+    ensures keeps { D.honest disk.new → D.honest disk.old }
     ensures cause { HasCause (D.faults disk.old) (D.faults disk.new) result }
 {
     match keep(bodies, disk, fresh, bytes) {
@@ -146,23 +149,24 @@ pub(crate) fn commit<D: Disk>(
     requires fits { IsPayload row.now }
     requires fresh_apart { (f : ℕ) → fresh ≡ Some f → 2 ≤ f }
     requires freed_apart { All (λ f. 2 ≤ f) freed.now }
-    requires ready { D.honest → IsReady (journal_end journal.old) (D.seen disk.old 0) (D.past disk.old (D.moment disk.old) 0) }
+    requires ready { D.honest disk.old → IsReady (journal_end journal.old) (D.seen disk.old 0) (D.past disk.old (D.moment disk.old) 0) }
 
-    ensures consistent { D.honest → OnOk result ((url : List ℕ) (before after : Table) (r : Record) (given : ℕ → List ℕ) → IsDue before after r given fresh bytes.now row.now freed.now
+    ensures consistent { D.honest disk.new → OnOk result ((url : List ℕ) (before after : Table) (r : Record) (given : ℕ → List ℕ) → IsDue before after r given fresh bytes.now row.now freed.now
         → IsConsistent url before given (journal_end journal.old) (D.seen disk.old) (D.past disk.old (D.moment disk.old))
         → IsConsistent url after given (journal_end journal.new) (D.seen disk.new) (D.past disk.new (D.moment disk.new))) }
-    ensures any_moment { D.honest → (url : List ℕ) (before after : Table) (r : Record) (given : ℕ → List ℕ) → IsDue before after r given fresh bytes.now row.now freed.now
+    ensures any_moment { D.honest disk.new → (url : List ℕ) (before after : Table) (r : Record) (given : ℕ → List ℕ) → IsDue before after r given fresh bytes.now row.now freed.now
         → IsConsistent url before given (journal_end journal.old) (D.seen disk.old) (D.past disk.old (D.moment disk.old))
         → EachImage (D.past disk.new) (D.moment disk.old) (D.moment disk.new) (RecoversEither url before after given) }
-    ensures before { D.honest → IfErr result (λ stop. stop ≡ Before → (url : List ℕ) (before after : Table) (r : Record) (given : ℕ → List ℕ) → IsDue before after r given fresh bytes.now row.now freed.now
+    ensures before { D.honest disk.new → IfErr result (λ stop. stop ≡ Before → (url : List ℕ) (before after : Table) (r : Record) (given : ℕ → List ℕ) → IsDue before after r given fresh bytes.now row.now freed.now
         → IsConsistent url before given (journal_end journal.old) (D.seen disk.old) (D.past disk.old (D.moment disk.old))
         → EachImage (D.past disk.new) (D.moment disk.old) (D.moment disk.new) (Recovers url before given)) }
-    ensures ready { D.honest → OnOk result (IsReady (journal_end journal.new) (D.seen disk.new 0) (D.past disk.new (D.moment disk.new) 0)) }
-    ensures touches { D.honest → Touches (IsWritten fresh freed.now) (D.moment disk.old) (D.moment disk.new) (D.past disk.old) (D.past disk.new) }
-    ensures others { D.honest → RestStays (IsWritten fresh freed.now) (D.seen disk.old) (D.seen disk.new) }
-    ensures early { D.honest → IfErr result (λ stop. stop ≡ Before → ChangesOnly D.moment D.seen D.past (IsFile fresh) disk.old disk.new) }
-    ensures stored { D.honest → OnOk result (IsStored fresh bytes.now freed.now (D.seen disk.new) (D.past disk.new (D.moment disk.new))) }
-    ensures emptied { D.honest → OnOk result (AreEmpty freed.now (D.seen disk.new) (D.past disk.new (D.moment disk.new))) }
+    ensures ready { D.honest disk.new → OnOk result (IsReady (journal_end journal.new) (D.seen disk.new 0) (D.past disk.new (D.moment disk.new) 0)) }
+    ensures touches { D.honest disk.new → Touches (IsWritten fresh freed.now) (D.moment disk.old) (D.moment disk.new) (D.past disk.old) (D.past disk.new) }
+    ensures others { D.honest disk.new → RestStays (IsWritten fresh freed.now) (D.seen disk.old) (D.seen disk.new) }
+    ensures early { D.honest disk.new → IfErr result (λ stop. stop ≡ Before → ChangesOnly D.moment D.seen D.past (IsFile fresh) disk.old disk.new) }
+    ensures stored { D.honest disk.new → OnOk result (IsStored fresh bytes.now freed.now (D.seen disk.new) (D.past disk.new (D.moment disk.new))) }
+    ensures emptied { D.honest disk.new → OnOk result (AreEmpty freed.now (D.seen disk.new) (D.past disk.new (D.moment disk.new))) }
+    ensures keeps { D.honest disk.new → D.honest disk.old }
     ensures cause { HasCause (D.faults disk.old) (D.faults disk.new) result }
 {
     commit_rows(journal, bodies, disk, fresh, bytes, row, freed)

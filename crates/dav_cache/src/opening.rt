@@ -21,16 +21,17 @@ use std::alloc::Global;
 pub(crate) fn open<D: Disk>(alloc: Global, disk: &mut D, url: &str) -> Result<Opened, DeskFault>
     requires { length url.now < 65505 }
 
-    ensures table { D.honest → IfOk result (λ o. (table : Table) (bodies : ℕ → List ℕ) → AllRecover url.now table bodies (D.past disk.old (D.moment disk.old))
+    ensures table { D.honest disk.new → IfOk result (λ o. (table : Table) (bodies : ℕ → List ℕ) → AllRecover url.now table bodies (D.past disk.old (D.moment disk.old))
         → (o.table ≡ table) × IsConsistent url.now table bodies (journal_end o.journal) (D.seen disk.new) (D.past disk.new (D.moment disk.new))) }
-    ensures any_moment { D.honest → (table : Table) (bodies : ℕ → List ℕ) → AllRecover url.now table bodies (D.past disk.old (D.moment disk.old))
+    ensures any_moment { D.honest disk.new → (table : Table) (bodies : ℕ → List ℕ) → AllRecover url.now table bodies (D.past disk.old (D.moment disk.old))
         → EachImage (D.past disk.new) (D.moment disk.old) (D.moment disk.new) (Recovers url.now table bodies) }
-    ensures opened { D.honest → IfOk result (λ o. (length (D.seen disk.old 0) < 1099511627776) × IsIndexOf url.now o.table (D.seen disk.old 0)) }
+    ensures opened { D.honest disk.new → IfOk result (λ o. (length (D.seen disk.old 0) < 1099511627776) × IsIndexOf url.now o.table (D.seen disk.old 0)) }
     ensures within { IfOk result (λ o. IsWithin o.table) }
-    ensures fault { IfErr result (λ e. IsStartFault D.honest url.now (D.seen disk.old 0) (D.faults disk.old) (D.faults disk.new) e) }
-    ensures ready { D.honest → IfOk result (λ o. IsReady (journal_end o.journal) (D.seen disk.new 0) (D.past disk.new (D.moment disk.new) 0)) }
-    ensures touches { D.honest → Touches (λ f. f ≡ 0) (D.moment disk.old) (D.moment disk.new) (D.past disk.old) (D.past disk.new) }
-    ensures others { D.honest → OthersStay 0 (D.seen disk.old) (D.seen disk.new) }
+    ensures fault { IfErr result (λ e. IsStartFault (D.honest disk.new) url.now (D.seen disk.old 0) (D.faults disk.old) (D.faults disk.new) e) }
+    ensures ready { D.honest disk.new → IfOk result (λ o. IsReady (journal_end o.journal) (D.seen disk.new 0) (D.past disk.new (D.moment disk.new) 0)) }
+    ensures touches { D.honest disk.new → Touches (λ f. f ≡ 0) (D.moment disk.old) (D.moment disk.new) (D.past disk.old) (D.past disk.new) }
+    ensures others { D.honest disk.new → OthersStay 0 (D.seen disk.old) (D.seen disk.new) }
+    ensures keeps { D.honest disk.new → D.honest disk.old }
     ensures faults { D.faults disk.old ≤ D.faults disk.new }
 {
     let head = head_payload(alloc, url.as_bytes())?;

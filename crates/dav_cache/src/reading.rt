@@ -40,13 +40,14 @@ pub(crate) fn read_table<D: Disk>(
     disk: &mut D,
     journal: Journal,
 ) -> Result<Opened, StoreFault>
-    ensures read { D.honest → IfOk result (λ o. (url : List ℕ) → IsReading (head_of url ∷ []) (journal_end journal) (D.seen disk.old 0) (D.past disk.old (D.moment disk.old) 0)
+    ensures read { D.honest disk.new → IfOk result (λ o. (url : List ℕ) → IsReading (head_of url ∷ []) (journal_end journal) (D.seen disk.old 0) (D.past disk.old (D.moment disk.old) 0)
         → IsOpened url o.table (journal_end o.journal) (D.seen disk.new 0) (D.past disk.new (D.moment disk.new) 0)) }
-    ensures refused { D.honest → IfErr result (λ e. (at : ℕ) → e ≡ NotACache at → (url : List ℕ)
+    ensures refused { D.honest disk.new → IfErr result (λ e. (at : ℕ) → e ≡ NotACache at → (url : List ℕ)
         → IsReading (head_of url ∷ []) (journal_end journal) (D.seen disk.old 0) (D.past disk.old (D.moment disk.old) 0) → IsBadRow url at (D.seen disk.old 0)) }
-    ensures touches { D.honest → Touches (λ _. ⊥) (D.moment disk.old) (D.moment disk.new) (D.past disk.old) (D.past disk.new) }
-    ensures seen { D.honest → AllStay (D.seen disk.old) (D.seen disk.new) }
+    ensures touches { D.honest disk.new → Touches (λ _. ⊥) (D.moment disk.old) (D.moment disk.new) (D.past disk.old) (D.past disk.new) }
+    ensures seen { D.honest disk.new → AllStay (D.seen disk.old) (D.seen disk.new) }
     ensures within { IfOk result (λ o. IsWithin o.table) }
+    ensures keeps { D.honest disk.new → D.honest disk.old }
     ensures cause { IsCaused (D.faults disk.old) (D.faults disk.new) result }
     ensures undamaged { IfErr result IsNoDamage }
 {
@@ -73,16 +74,17 @@ fn next_record<D: Disk>(
     requires row { row ≡ table.old.records + 1 }
     requires in_bounds { IsWithin table.old }
 
-    ensures more { D.honest → IfOk result (λ n. n ≡ Row → (url : List ℕ) (records : List Record) → IsRead url records table.old (journal_end journal.old) (D.seen disk.old 0) (D.past disk.old (D.moment disk.old) 0)
+    ensures more { D.honest disk.new → IfOk result (λ n. n ≡ Row → (url : List ℕ) (records : List Record) → IsRead url records table.old (journal_end journal.old) (D.seen disk.old 0) (D.past disk.old (D.moment disk.old) 0)
         → (r : Record) × IsRead url (records ++ r ∷ []) table.new (journal_end journal.new) (D.seen disk.new 0) (D.past disk.new (D.moment disk.new) 0)) }
-    ensures ended { D.honest → IfOk result (λ n. n ≡ End → (url : List ℕ) (records : List Record) → IsRead url records table.old (journal_end journal.old) (D.seen disk.old 0) (D.past disk.old (D.moment disk.old) 0)
+    ensures ended { D.honest disk.new → IfOk result (λ n. n ≡ End → (url : List ℕ) (records : List Record) → IsRead url records table.old (journal_end journal.old) (D.seen disk.old 0) (D.past disk.old (D.moment disk.old) 0)
         → IsOpened url table.new (journal_end journal.new) (D.seen disk.new 0) (D.past disk.new (D.moment disk.new) 0)) }
-    ensures refused { D.honest → IfErr result (λ e. (at : ℕ) → e ≡ NotACache at → (url : List ℕ) (records : List Record)
+    ensures refused { D.honest disk.new → IfErr result (λ e. (at : ℕ) → e ≡ NotACache at → (url : List ℕ) (records : List Record)
         → IsRead url records table.old (journal_end journal.old) (D.seen disk.old 0) (D.past disk.old (D.moment disk.old) 0) → IsBadRow url at (D.seen disk.old 0)) }
     ensures counted { IfOk result (λ n. n ≡ Row → table.new.records ≡ row) }
     ensures within { OnOk result (IsWithin table.new) }
-    ensures touches { D.honest → Touches (λ _. ⊥) (D.moment disk.old) (D.moment disk.new) (D.past disk.old) (D.past disk.new) }
-    ensures seen { D.honest → AllStay (D.seen disk.old) (D.seen disk.new) }
+    ensures touches { D.honest disk.new → Touches (λ _. ⊥) (D.moment disk.old) (D.moment disk.new) (D.past disk.old) (D.past disk.new) }
+    ensures seen { D.honest disk.new → AllStay (D.seen disk.old) (D.seen disk.new) }
+    ensures keeps { D.honest disk.new → D.honest disk.old }
     ensures cause { IsCaused (D.faults disk.old) (D.faults disk.new) result }
     ensures undamaged { IfErr result IsNoDamage }
 {

@@ -45,17 +45,18 @@ impl<D: Disk> Recorder<D> {
     pub fn start(alloc: Global, disk: D, url: &str) -> Result<(Recorder<D>, Table), (D, DeskFault)>
         requires { length url.now < 65505 }
 
-        ensures live { D.honest → IfOk result (λ both. (table : Table) (given : ℕ → List ℕ) → AllRecover url.now table given (D.past disk (D.moment disk))
+        ensures live { IfOk result (λ both. D.honest both.0.disk → (table : Table) (given : ℕ → List ℕ) → AllRecover url.now table given (D.past disk (D.moment disk))
             → (both.1 ≡ table) × IsLive D.moment D.seen D.past url.now (started table) (D.moment disk) given both.0) }
-        ensures any_moment { D.honest → (table : Table) (given : ℕ → List ℕ) → AllRecover url.now table given (D.past disk (D.moment disk))
-            → MatchResult result (λ both. EachImage (D.past both.0.disk) (D.moment disk) (D.moment both.0.disk) (Recovers url.now table given))
-            (λ both. EachImage (D.past both.0) (D.moment disk) (D.moment both.0) (Recovers url.now table given)) }
-        ensures opened { D.honest → IfOk result (λ both. (length (D.seen disk 0) < 1099511627776) × IsIndexOf url.now both.1 (D.seen disk 0)) }
+        ensures any_moment { (table : Table) (given : ℕ → List ℕ) → AllRecover url.now table given (D.past disk (D.moment disk))
+            → MatchResult result (λ both. D.honest both.0.disk → EachImage (D.past both.0.disk) (D.moment disk) (D.moment both.0.disk) (Recovers url.now table given))
+            (λ both. D.honest both.0 → EachImage (D.past both.0) (D.moment disk) (D.moment both.0) (Recovers url.now table given)) }
+        ensures opened { IfOk result (λ both. D.honest both.0.disk → (length (D.seen disk 0) < 1099511627776) × IsIndexOf url.now both.1 (D.seen disk 0)) }
         ensures within { IfOk result (λ both. IsWithin both.1) }
-        ensures fault { IfErr result (λ both. IsStartFault D.honest url.now (D.seen disk 0) (D.faults disk) (D.faults both.0) both.1) }
-        ensures ready { D.honest → IfOk result (λ both. IsReady (journal_end both.0.journal) (D.seen both.0.disk 0) (D.past both.0.disk (D.moment both.0.disk) 0)) }
+        ensures fault { IfErr result (λ both. IsStartFault (D.honest both.0) url.now (D.seen disk 0) (D.faults disk) (D.faults both.0) both.1) }
+        ensures ready { IfOk result (λ both. D.honest both.0.disk → IsReady (journal_end both.0.journal) (D.seen both.0.disk 0) (D.past both.0.disk (D.moment both.0.disk) 0)) }
         ensures fresh { IfOk result (λ both. (both.0.trace.steps.items ≡ []) × (both.0.under ≡ None) × (both.0.dead ≡ None)) }
-        ensures changes { D.honest → MatchResult result (λ both. ChangesOnly D.moment D.seen D.past (λ f. f ≡ 0) disk both.0.disk) (λ both. ChangesOnly D.moment D.seen D.past (λ f. f ≡ 0) disk both.0) }
+        ensures changes { MatchResult result (λ both. D.honest both.0.disk → ChangesOnly D.moment D.seen D.past (λ f. f ≡ 0) disk both.0.disk) (λ both. D.honest both.0 → ChangesOnly D.moment D.seen D.past (λ f. f ≡ 0) disk both.0) }
+        ensures keeps { MatchResult result (λ both. D.honest both.0.disk → D.honest disk) (λ both. D.honest both.0 → D.honest disk) }
         ensures faults { MatchResult result (λ both. D.faults disk ≤ D.faults both.0.disk) (λ both. D.faults disk ≤ D.faults both.0) }
     {
         let mut disk = disk;
@@ -101,12 +102,12 @@ impl<D: Disk> Recorder<D> {
         requires fresh_apart { (f : ℕ) → fresh ≡ Some f → 2 ≤ f }
         requires freed_apart { All (λ f. 2 ≤ f) freed.now }
         requires room { length self.old.trace.steps.items < vec_capacity self.old.trace.steps }
-        requires ready { D.honest → IsReady (journal_end self.old.journal) (D.seen self.old.disk 0) (D.past self.old.disk (D.moment self.old.disk) 0) }
+        requires ready { D.honest self.old.disk → IsReady (journal_end self.old.journal) (D.seen self.old.disk 0) (D.past self.old.disk (D.moment self.old.disk) 0) }
 
-        ensures live { D.honest → OnOk result ((url : List ℕ) (opening : DeskTable) (start : ℕ) (given : ℕ → List ℕ) → IsLegal (table_after opening self.old.trace.steps.items) step
+        ensures live { D.honest self.new.disk → OnOk result ((url : List ℕ) (opening : DeskTable) (start : ℕ) (given : ℕ → List ℕ) → IsLegal (table_after opening self.old.trace.steps.items) step
             → IsPlanned (table_after opening self.old.trace.steps.items) step given fresh bytes.now row.now freed.now
             → IsLive D.moment D.seen D.past url opening start given self.old → IsLive D.moment D.seen D.past url opening start given self.new) }
-        ensures left { D.honest → OnErr result ((url : List ℕ) (opening : DeskTable) (start : ℕ) (given : ℕ → List ℕ) → IsLegal (table_after opening self.old.trace.steps.items) step
+        ensures left { D.honest self.new.disk → OnErr result ((url : List ℕ) (opening : DeskTable) (start : ℕ) (given : ℕ → List ℕ) → IsLegal (table_after opening self.old.trace.steps.items) step
             → IsPlanned (table_after opening self.old.trace.steps.items) step given fresh bytes.now row.now freed.now
             → IsLive D.moment D.seen D.past url opening start given self.old → IsLeft D.moment D.past url opening start given self.new) }
         ensures ended { OnOk result ((self.new.trace.steps.items ≡ self.old.trace.steps.items ++ record step { moment = D.moment self.new.disk } ∷ [])
@@ -114,12 +115,13 @@ impl<D: Disk> Recorder<D> {
         ensures stopped { IfErr result (λ e. (e ≡ DiskFault) × (self.new.dead ≡ Some DiskFault) × Rose (D.faults self.old.disk) (D.faults self.new.disk)
             × (self.new.trace.steps.items ≡ self.old.trace.steps.items)
             × ((self.new.under ≡ self.old.under) ⊎ (self.new.under ≡ Some (record step { moment = D.moment self.new.disk })))) }
-        ensures ready { D.honest → OnOk result (IsReady (journal_end self.new.journal) (D.seen self.new.disk 0) (D.past self.new.disk (D.moment self.new.disk) 0)) }
-        ensures changes { D.honest → ChangesOnly D.moment D.seen D.past (IsWritten fresh freed.now) self.old.disk self.new.disk }
-        ensures early { D.honest → OnErr result (ChangesOnly D.moment D.seen D.past (IsFile fresh) self.old.disk self.new.disk ⊎ (self.new.under ≡ Some (record step { moment = D.moment self.new.disk }))) }
-        ensures stored { D.honest → OnOk result (IsStored fresh bytes.now freed.now (D.seen self.new.disk) (D.past self.new.disk (D.moment self.new.disk))) }
-        ensures emptied { D.honest → OnOk result (AreEmpty freed.now (D.seen self.new.disk) (D.past self.new.disk (D.moment self.new.disk))) }
+        ensures ready { D.honest self.new.disk → OnOk result (IsReady (journal_end self.new.journal) (D.seen self.new.disk 0) (D.past self.new.disk (D.moment self.new.disk) 0)) }
+        ensures changes { D.honest self.new.disk → ChangesOnly D.moment D.seen D.past (IsWritten fresh freed.now) self.old.disk self.new.disk }
+        ensures early { D.honest self.new.disk → OnErr result (ChangesOnly D.moment D.seen D.past (IsFile fresh) self.old.disk self.new.disk ⊎ (self.new.under ≡ Some (record step { moment = D.moment self.new.disk }))) }
+        ensures stored { D.honest self.new.disk → OnOk result (IsStored fresh bytes.now freed.now (D.seen self.new.disk) (D.past self.new.disk (D.moment self.new.disk))) }
+        ensures emptied { D.honest self.new.disk → OnOk result (AreEmpty freed.now (D.seen self.new.disk) (D.past self.new.disk (D.moment self.new.disk))) }
         ensures capacity { vec_capacity self.old.trace.steps ≤ vec_capacity self.new.trace.steps }
+        ensures keeps { D.honest self.new.disk → D.honest self.old.disk }
         ensures faults { D.faults self.old.disk ≤ D.faults self.new.disk }
     {
         let mut step = step;
@@ -156,21 +158,22 @@ impl<D: Disk> Recorder<D> {
         requires freed_apart { All (λ f. 2 ≤ f) freed.now }
         requires room { length self.old.trace.steps.items < vec_capacity self.old.trace.steps }
 
-        ensures live { D.honest → OnOk result ((url : List ℕ) (opening : DeskTable) (start : ℕ) (given : ℕ → List ℕ) → IsLegal (table_after opening self.old.trace.steps.items) step
+        ensures live { D.honest self.new.disk → OnOk result ((url : List ℕ) (opening : DeskTable) (start : ℕ) (given : ℕ → List ℕ) → IsLegal (table_after opening self.old.trace.steps.items) step
             → IsQuiet (table_after opening self.old.trace.steps.items) step freed.now
             → IsLive D.moment D.seen D.past url opening start given self.old → IsLive D.moment D.seen D.past url opening start given self.new) }
-        ensures left { D.honest → OnErr result ((url : List ℕ) (opening : DeskTable) (start : ℕ) (given : ℕ → List ℕ)
+        ensures left { D.honest self.new.disk → OnErr result ((url : List ℕ) (opening : DeskTable) (start : ℕ) (given : ℕ → List ℕ)
             → IsQuiet (table_after opening self.old.trace.steps.items) step freed.now
             → IsLive D.moment D.seen D.past url opening start given self.old → IsLeft D.moment D.past url opening start given self.new) }
         ensures ended { OnOk result ((self.new.trace.steps.items ≡ self.old.trace.steps.items ++ record step { moment = D.moment self.new.disk } ∷ [])
             × (self.new.under ≡ self.old.under) × (self.new.dead ≡ self.old.dead)) }
         ensures stopped { IfErr result (λ e. (e ≡ DiskFault) × (self.new.dead ≡ Some DiskFault) × Rose (D.faults self.old.disk) (D.faults self.new.disk)
             × (self.new.trace.steps.items ≡ self.old.trace.steps.items) × (self.new.under ≡ self.old.under)) }
-        ensures ready { D.honest → IsReady (journal_end self.old.journal) (D.seen self.old.disk 0) (D.past self.old.disk (D.moment self.old.disk) 0)
+        ensures ready { D.honest self.new.disk → IsReady (journal_end self.old.journal) (D.seen self.old.disk 0) (D.past self.old.disk (D.moment self.old.disk) 0)
             → IsReady (journal_end self.new.journal) (D.seen self.new.disk 0) (D.past self.new.disk (D.moment self.new.disk) 0) }
-        ensures changes { D.honest → ChangesOnly D.moment D.seen D.past (Contains freed.now) self.old.disk self.new.disk }
-        ensures emptied { D.honest → OnOk result (AreEmpty freed.now (D.seen self.new.disk) (D.past self.new.disk (D.moment self.new.disk))) }
+        ensures changes { D.honest self.new.disk → ChangesOnly D.moment D.seen D.past (Contains freed.now) self.old.disk self.new.disk }
+        ensures emptied { D.honest self.new.disk → OnOk result (AreEmpty freed.now (D.seen self.new.disk) (D.past self.new.disk (D.moment self.new.disk))) }
         ensures capacity { vec_capacity self.old.trace.steps ≤ vec_capacity self.new.trace.steps }
+        ensures keeps { D.honest self.new.disk → D.honest self.old.disk }
         ensures faults { D.faults self.old.disk ≤ D.faults self.new.disk }
     {
         let mut step = step;
@@ -190,20 +193,21 @@ impl<D: Disk> Recorder<D> {
     /// The bytes of a body. Answers `Damaged` where they do not have the body's SHA-256, and `Memory` only before the first
     /// device call; after `Disk` and `Damaged` the desk is dead. At any answer a stop leaves what it left before.
     pub fn fetch(&mut self, id: &BodyId) -> Result<Blob, DeskFault>
-        ensures bytes { D.honest → IfOk result (λ blob. (url : List ℕ) (opening : DeskTable) (start : ℕ) (given : ℕ → List ℕ) → IsLive D.moment D.seen D.past url opening start given self.old
+        ensures bytes { D.honest self.new.disk → IfOk result (λ blob. (url : List ℕ) (opening : DeskTable) (start : ℕ) (given : ℕ → List ℕ) → IsLive D.moment D.seen D.past url opening start given self.old
             → Contains (bodies_of (kept_table (table_after opening self.old.trace.steps.items))) id.now → blob ≡ given id.now.file) }
         ensures sum { IfOk result (λ blob. sha256 blob ≡ id.now.sum) }
-        ensures live { D.honest → (url : List ℕ) (opening : DeskTable) (start : ℕ) (given : ℕ → List ℕ) → IsLive D.moment D.seen D.past url opening start given self.old
+        ensures live { D.honest self.new.disk → (url : List ℕ) (opening : DeskTable) (start : ℕ) (given : ℕ → List ℕ) → IsLive D.moment D.seen D.past url opening start given self.old
             → IsLive D.moment D.seen D.past url opening start given self.new }
-        ensures seen { D.honest → AllStay (D.seen self.old.disk) (D.seen self.new.disk) }
-        ensures fault { IfErr result (λ e. IsFetchFault D.honest id.now (D.seen self.old.disk id.now.file) (D.faults self.old.disk) (D.faults self.new.disk) e) }
+        ensures seen { D.honest self.new.disk → AllStay (D.seen self.old.disk) (D.seen self.new.disk) }
+        ensures fault { IfErr result (λ e. IsFetchFault (D.honest self.new.disk) id.now (D.seen self.old.disk id.now.file) (D.faults self.old.disk) (D.faults self.new.disk) e) }
         ensures starved { IfErr result (λ e. e ≡ MemoryFault → (self.new.disk ≡ self.old.disk) × (self.new.dead ≡ self.old.dead)) }
         ensures stopped { IfErr result (λ e. e ≢ MemoryFault → self.new.dead ≡ Some e) }
         ensures alive { OnOk result (self.new.dead ≡ self.old.dead) }
         ensures trace { (self.new.trace ≡ self.old.trace) × (self.new.under ≡ self.old.under) }
-        ensures ready { D.honest → IsReady (journal_end self.old.journal) (D.seen self.old.disk 0) (D.past self.old.disk (D.moment self.old.disk) 0)
+        ensures ready { D.honest self.new.disk → IsReady (journal_end self.old.journal) (D.seen self.old.disk 0) (D.past self.old.disk (D.moment self.old.disk) 0)
             → IsReady (journal_end self.new.journal) (D.seen self.new.disk 0) (D.past self.new.disk (D.moment self.new.disk) 0) }
-        ensures changes { D.honest → ChangesOnly D.moment D.seen D.past (λ _. ⊥) self.old.disk self.new.disk }
+        ensures changes { D.honest self.new.disk → ChangesOnly D.moment D.seen D.past (λ _. ⊥) self.old.disk self.new.disk }
+        ensures keeps { D.honest self.new.disk → D.honest self.old.disk }
         ensures faults { D.faults self.old.disk ≤ D.faults self.new.disk }
     {
         match self.bodies.fetch(&mut self.disk, id) {

@@ -31,12 +31,12 @@ pub record WasDead {D : Type 0} (fault : DeskFault) (old new : Desk D) : Type 0 
 
 -- The desk died in this call: the disk failed in it, or the bytes of a job are not to be had. The step is the one under way where
 -- its record was begun.
-pub record HasDied {D : Type 0} (honest : Type 0) (moment : D → ℕ) (seen : D → ℕ → List ℕ) (faults : D → ℕ) (who : Who) (now : ℕ) (ask : Ask) (fault : DeskFault) (old new : Desk D) : Type 0 where
+pub record HasDied {D : Type 0} (honest : D → Type 0) (moment : D → ℕ) (seen : D → ℕ → List ℕ) (faults : D → ℕ) (who : Who) (now : ℕ) (ask : Ask) (fault : DeskFault) (old new : Desk D) : Type 0 where
   pub alive : old.recorder.dead ≡ None
   pub dead : new.recorder.dead ≡ Some fault
   pub ends : IsEnd fault
   pub cause : ((fault ≡ Disk) × Rose (faults old.recorder.disk) (faults new.recorder.disk))
-      ⊎ IsUnread honest (seen old.recorder.disk) (seen new.recorder.disk) (faults old.recorder.disk) (faults new.recorder.disk) old.table now ask fault
+      ⊎ IsUnread (honest new.recorder.disk) (seen old.recorder.disk) (seen new.recorder.disk) (faults old.recorder.disk) (faults new.recorder.disk) old.table now ask fault
   pub under : (new.recorder.under ≡ old.recorder.under) ⊎ (new.recorder.under ≡ Some (step_of old.table who now ask (moment new.recorder.disk)))
 
 -- the desk lives on
@@ -51,13 +51,13 @@ pub record IsUncalled {D : Type 0} (old new : Desk D) : Type 0 where
   pub disk : new.recorder.disk ≡ old.recorder.disk
 
 -- what there was to a verdict. A call that adds no step to the trace made no device call unless it was stopped
-abbrev pub HasCause : {D : Type 0} → Type 0 → (D → ℕ) → (D → ℕ → List ℕ) → (D → ℕ) → Who → ℕ → Ask → Verdict → Desk D → Desk D → Type 0
+abbrev pub HasCause : {D : Type 0} → (D → Type 0) → (D → ℕ) → (D → ℕ → List ℕ) → (D → ℕ) → Who → ℕ → Ask → Verdict → Desk D → Desk D → Type 0
 HasCause honest moment seen faults who now ask Went old new = LivesOn old new × (steps_by Went old.table who now ask 0 ≡ [] → IsUncalled old new)
 HasCause honest moment seen faults who now ask (Stopped fault) old new = WasDead fault old new ⊎ HasDied honest moment seen faults who now ask fault old new
 HasCause honest moment seen faults who now ask Starved old new = IsUncalled old new
 
 -- the desk was asked this, and answered so: all by one verdict
-pub record IsAsked {D : Type 0} (honest : Type 0) (moment : D → ℕ) (seen : D → ℕ → List ℕ) (faults : D → ℕ) (who : Who) (now : ℕ) (ask : Ask) (old new : Desk D) (result : Result Answer DeskFault) : Type 0 where
+pub record IsAsked {D : Type 0} (honest : D → Type 0) (moment : D → ℕ) (seen : D → ℕ → List ℕ) (faults : D → ℕ) (who : Who) (now : ℕ) (ask : Ask) (old new : Desk D) (result : Result Answer DeskFault) : Type 0 where
   pub verdict : Verdict
   pub bytes : List ℕ
   pub answer : result ≡ result_by verdict old.table now ask bytes

@@ -17,8 +17,8 @@ use Rattle.dav_desk.specs.Ends.{IsEndIfAny}
 use Rattle.dav_desk.specs.Room.{HasRoom}
 
 -- the desk can be asked: unless it is dead, a record can be added to its index, and there is room for the end of its job
-pub record IsReadied {D : Type 0} (honest : Type 0) (moment : D → ℕ) (seen : D → ℕ → List ℕ) (past : D → ℕ → ℕ → Doubt) (desk : Desk D) : Type 0 where
-  pub index : honest → desk.recorder.dead ≡ None
+pub record IsReadied {D : Type 0} (honest : D → Type 0) (moment : D → ℕ) (seen : D → ℕ → List ℕ) (past : D → ℕ → ℕ → Doubt) (desk : Desk D) : Type 0 where
+  pub index : honest desk.recorder.disk → desk.recorder.dead ≡ None
       → IsReady (journal_end desk.recorder.journal) (seen desk.recorder.disk 0) (past desk.recorder.disk (moment desk.recorder.disk) 0)
   pub end : IsEndIfAny desk.recorder.dead
   pub room : desk.recorder.dead ≡ None → HasRoom desk

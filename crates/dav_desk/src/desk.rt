@@ -94,17 +94,18 @@ impl<D: Disk> Desk<D> {
     pub fn start(alloc: Global, disk: D, url: &str) -> Result<Desk<D>, (D, DeskFault)>
         requires { length url.now < 65505 }
 
-        ensures working { D.honest → IfOk result (λ desk. (table : Table) (given : ℕ → List ℕ) → AllRecover url.now table given (D.past disk (D.moment disk))
+        ensures working { IfOk result (λ desk. D.honest desk.recorder.disk → (table : Table) (given : ℕ → List ℕ) → AllRecover url.now table given (D.past disk (D.moment disk))
             → (desk.table ≡ started table) × IsWorking D.moment D.seen D.past url.now (started table) (D.moment disk) given desk) }
-        ensures any_moment { D.honest → (table : Table) (given : ℕ → List ℕ) → AllRecover url.now table given (D.past disk (D.moment disk))
-            → MatchResult result (λ desk. EachImage (D.past desk.recorder.disk) (D.moment disk) (D.moment desk.recorder.disk) (Recovers url.now table given))
-            (λ both. EachImage (D.past both.0) (D.moment disk) (D.moment both.0) (Recovers url.now table given)) }
-        ensures opened { D.honest → IfOk result (λ desk. (length (D.seen disk 0) < 1099511627776) × IsIndexOf url.now desk.table.index (D.seen disk 0)) }
-        ensures fault { IfErr result (λ both. IsStartFault D.honest url.now (D.seen disk 0) (D.faults disk) (D.faults both.0) both.1) }
+        ensures any_moment { (table : Table) (given : ℕ → List ℕ) → AllRecover url.now table given (D.past disk (D.moment disk))
+            → MatchResult result (λ desk. D.honest desk.recorder.disk → EachImage (D.past desk.recorder.disk) (D.moment disk) (D.moment desk.recorder.disk) (Recovers url.now table given))
+            (λ both. D.honest both.0 → EachImage (D.past both.0) (D.moment disk) (D.moment both.0) (Recovers url.now table given)) }
+        ensures opened { IfOk result (λ desk. D.honest desk.recorder.disk → (length (D.seen disk 0) < 1099511627776) × IsIndexOf url.now desk.table.index (D.seen disk 0)) }
+        ensures fault { IfErr result (λ both. IsStartFault (D.honest both.0) url.now (D.seen disk 0) (D.faults disk) (D.faults both.0) both.1) }
         ensures fresh { IfOk result (λ desk. (desk.table ≡ started desk.table.index) × IsSound desk.table × (desk.recorder.trace.steps.items ≡ [])
             × (desk.recorder.under ≡ None) × (desk.recorder.dead ≡ None)) }
         ensures readied { IfOk result (λ desk. IsReadied D.honest D.moment D.seen D.past desk) }
-        ensures changes { D.honest → MatchResult result (λ desk. ChangesOnly D.moment D.seen D.past (λ f. f ≡ 0) disk desk.recorder.disk) (λ both. ChangesOnly D.moment D.seen D.past (λ f. f ≡ 0) disk both.0) }
+        ensures changes { MatchResult result (λ desk. D.honest desk.recorder.disk → ChangesOnly D.moment D.seen D.past (λ f. f ≡ 0) disk desk.recorder.disk) (λ both. D.honest both.0 → ChangesOnly D.moment D.seen D.past (λ f. f ≡ 0) disk both.0) }
+        ensures keeps { MatchResult result (λ desk. D.honest desk.recorder.disk → D.honest disk) (λ both. D.honest both.0 → D.honest disk) }
         ensures faults { MatchResult result (λ desk. D.faults disk ≤ D.faults desk.recorder.disk) (λ both. D.faults disk ≤ D.faults both.0) }
     {
         match Recorder::start(alloc, disk, url) {
@@ -129,17 +130,18 @@ impl<D: Disk> Desk<D> {
         requires readied { IsReadied D.honest D.moment D.seen D.past self.old }
 
         ensures asked { IsAsked D.honest D.moment D.seen D.faults who now ask.now self.old self.new result }
-        ensures working { D.honest → (url : List ℕ) (opening : DeskTable) (start : ℕ) (given : ℕ → List ℕ) → AreGiven self.old.table given ask.now → IsWorking D.moment D.seen D.past url opening start given self.old
+        ensures working { D.honest self.new.recorder.disk → (url : List ℕ) (opening : DeskTable) (start : ℕ) (given : ℕ → List ℕ) → AreGiven self.old.table given ask.now → IsWorking D.moment D.seen D.past url opening start given self.old
             → self.new.recorder.dead ≡ None → IsWorking D.moment D.seen D.past url opening start given self.new }
-        ensures stopped { D.honest → (url : List ℕ) (opening : DeskTable) (start : ℕ) (given : ℕ → List ℕ) → AreGiven self.old.table given ask.now → IsWorking D.moment D.seen D.past url opening start given self.old
+        ensures stopped { D.honest self.new.recorder.disk → (url : List ℕ) (opening : DeskTable) (start : ℕ) (given : ℕ → List ℕ) → AreGiven self.old.table given ask.now → IsWorking D.moment D.seen D.past url opening start given self.old
             → self.new.recorder.dead ≢ None → IsStopped D.moment D.past url opening start given self.new }
-        ensures bytes { D.honest → IfOk result (λ answer. (url : List ℕ) (opening : DeskTable) (start : ℕ) (given : ℕ → List ℕ) → IsWorking D.moment D.seen D.past url opening start given self.old → HasBytes given answer) }
+        ensures bytes { D.honest self.new.recorder.disk → IfOk result (λ answer. (url : List ℕ) (opening : DeskTable) (start : ℕ) (given : ℕ → List ℕ) → IsWorking D.moment D.seen D.past url opening start given self.old → HasBytes given answer) }
         ensures sum { IfOk result HasSum }
         ensures sound { IsSound self.new.table }
         ensures readied { IsReadied D.honest D.moment D.seen D.past self.new }
-        ensures changes { D.honest → ChangesAsked D.moment D.seen D.past now ask.now self.old self.new }
-        ensures put { D.honest → OnOk result (IsPut D.moment D.seen D.past now ask.now self.old self.new) }
+        ensures changes { D.honest self.new.recorder.disk → ChangesAsked D.moment D.seen D.past now ask.now self.old self.new }
+        ensures put { D.honest self.new.recorder.disk → OnOk result (IsPut D.moment D.seen D.past now ask.now self.old self.new) }
         ensures ends { ends_job self.old.table.job ask.now ≡ true → IfErr result (λ e. e ≢ MemoryFault) }
+        ensures keeps { D.honest self.new.recorder.disk → D.honest self.old.recorder.disk }
         ensures faults { D.faults self.old.recorder.disk ≤ D.faults self.new.recorder.disk }
     {
         let _ = self.table.index();
@@ -173,22 +175,23 @@ impl<D: Disk> Desk<D> {
         requires alive { self.old.recorder.dead ≡ None }
         requires sound { IsSound self.old.table }
         requires plan { IsPlan self.old.table planned.made.step.who planned.made.step.now ask.now (Some planned) row.now }
-        requires ready { D.honest → IsReady (journal_end self.old.recorder.journal) (D.seen self.old.recorder.disk 0) (D.past self.old.recorder.disk (D.moment self.old.recorder.disk) 0) }
+        requires ready { D.honest self.old.recorder.disk → IsReady (journal_end self.old.recorder.journal) (D.seen self.old.recorder.disk 0) (D.past self.old.recorder.disk (D.moment self.old.recorder.disk) 0) }
         requires held { IsHeldFor planned.made.step.told self.old }
         requires next { HasSpare (after self.old.table planned.made.step.now (deed_of self.old.table ask.now)) (kept_spare_lem saved self.old.spare) }
 
         ensures asked { IsAsked D.honest D.moment D.seen D.faults planned.made.step.who planned.made.step.now ask.now self.old self.new result }
-        ensures working { D.honest → (url : List ℕ) (opening : DeskTable) (start : ℕ) (given : ℕ → List ℕ) → AreGiven self.old.table given ask.now → IsWorking D.moment D.seen D.past url opening start given self.old
+        ensures working { D.honest self.new.recorder.disk → (url : List ℕ) (opening : DeskTable) (start : ℕ) (given : ℕ → List ℕ) → AreGiven self.old.table given ask.now → IsWorking D.moment D.seen D.past url opening start given self.old
             → self.new.recorder.dead ≡ None → IsWorking D.moment D.seen D.past url opening start given self.new }
-        ensures stopped { D.honest → (url : List ℕ) (opening : DeskTable) (start : ℕ) (given : ℕ → List ℕ) → AreGiven self.old.table given ask.now → IsWorking D.moment D.seen D.past url opening start given self.old
+        ensures stopped { D.honest self.new.recorder.disk → (url : List ℕ) (opening : DeskTable) (start : ℕ) (given : ℕ → List ℕ) → AreGiven self.old.table given ask.now → IsWorking D.moment D.seen D.past url opening start given self.old
             → self.new.recorder.dead ≢ None → IsStopped D.moment D.past url opening start given self.new }
-        ensures bytes { D.honest → IfOk result (λ answer. (url : List ℕ) (opening : DeskTable) (start : ℕ) (given : ℕ → List ℕ) → IsWorking D.moment D.seen D.past url opening start given self.old → HasBytes given answer) }
+        ensures bytes { D.honest self.new.recorder.disk → IfOk result (λ answer. (url : List ℕ) (opening : DeskTable) (start : ℕ) (given : ℕ → List ℕ) → IsWorking D.moment D.seen D.past url opening start given self.old → HasBytes given answer) }
         ensures sum { IfOk result HasSum }
         ensures sound { IsSound self.new.table }
         ensures readied { IsReadied D.honest D.moment D.seen D.past self.new }
-        ensures changes { D.honest → ChangesAsked D.moment D.seen D.past planned.made.step.now ask.now self.old self.new }
-        ensures put { D.honest → OnOk result (IsPut D.moment D.seen D.past planned.made.step.now ask.now self.old self.new) }
+        ensures changes { D.honest self.new.recorder.disk → ChangesAsked D.moment D.seen D.past planned.made.step.now ask.now self.old self.new }
+        ensures put { D.honest self.new.recorder.disk → OnOk result (IsPut D.moment D.seen D.past planned.made.step.now ask.now self.old self.new) }
         ensures ends { (fated : Fated) → planned.made.step.told ≡ Some (Settled fated) → IfErr result (λ e. e ≢ MemoryFault) }
+        ensures keeps { D.honest self.new.recorder.disk → D.honest self.old.recorder.disk }
         ensures faults { D.faults self.old.recorder.disk ≤ D.faults self.new.recorder.disk }
     {
         let Planned { made, change } = planned;

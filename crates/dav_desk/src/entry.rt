@@ -52,19 +52,20 @@ pub(crate) fn told_bytes<D: Disk>(
     recorder: &mut Recorder<D>,
     told: &Option<Told>,
 ) -> Result<Blob, DeskFault>
-    ensures bytes { D.honest → IfOk result (λ blob. (flight : Flight) → told.now ≡ Some (Took flight) → (url : List ℕ) (opening : DeskTable) (start : ℕ) (given : ℕ → List ℕ)
+    ensures bytes { D.honest recorder.new.disk → IfOk result (λ blob. (flight : Flight) → told.now ≡ Some (Took flight) → (url : List ℕ) (opening : DeskTable) (start : ℕ) (given : ℕ → List ℕ)
         → IsLive D.moment D.seen D.past url opening start given recorder.old → Contains (bodies_of (kept_table (table_after opening recorder.old.trace.steps.items))) flight.body → blob ≡ given flight.body.file) }
-    ensures live { D.honest → (url : List ℕ) (opening : DeskTable) (start : ℕ) (given : ℕ → List ℕ) → IsLive D.moment D.seen D.past url opening start given recorder.old
+    ensures live { D.honest recorder.new.disk → (url : List ℕ) (opening : DeskTable) (start : ℕ) (given : ℕ → List ℕ) → IsLive D.moment D.seen D.past url opening start given recorder.old
         → IsLive D.moment D.seen D.past url opening start given recorder.new }
     ensures sum { IfOk result (λ blob. (flight : Flight) → told.now ≡ Some (Took flight) → sha256 blob ≡ flight.body.sum) }
-    ensures fault { IfErr result (λ e. IsMissing D.honest (D.seen recorder.old.disk) (D.seen recorder.new.disk) (D.faults recorder.old.disk) (D.faults recorder.new.disk) told.now e) }
+    ensures fault { IfErr result (λ e. IsMissing (D.honest recorder.new.disk) (D.seen recorder.old.disk) (D.seen recorder.new.disk) (D.faults recorder.old.disk) (D.faults recorder.new.disk) told.now e) }
     ensures starved { IfErr result (λ e. e ≡ MemoryFault → (recorder.new.disk ≡ recorder.old.disk) × (recorder.new.dead ≡ recorder.old.dead)) }
     ensures stopped { IfErr result (λ e. e ≢ MemoryFault → recorder.new.dead ≡ Some e) }
     ensures alive { OnOk result (recorder.new.dead ≡ recorder.old.dead) }
     ensures trace { (recorder.new.trace ≡ recorder.old.trace) × (recorder.new.under ≡ recorder.old.under) }
-    ensures ready { D.honest → IsReady (journal_end recorder.old.journal) (D.seen recorder.old.disk 0) (D.past recorder.old.disk (D.moment recorder.old.disk) 0)
+    ensures ready { D.honest recorder.new.disk → IsReady (journal_end recorder.old.journal) (D.seen recorder.old.disk 0) (D.past recorder.old.disk (D.moment recorder.old.disk) 0)
         → IsReady (journal_end recorder.new.journal) (D.seen recorder.new.disk 0) (D.past recorder.new.disk (D.moment recorder.new.disk) 0) }
-    ensures changes { D.honest → ChangesOnly D.moment D.seen D.past (λ _. ⊥) recorder.old.disk recorder.new.disk }
+    ensures changes { D.honest recorder.new.disk → ChangesOnly D.moment D.seen D.past (λ _. ⊥) recorder.old.disk recorder.new.disk }
+    ensures keeps { D.honest recorder.new.disk → D.honest recorder.old.disk }
     ensures faults { D.faults recorder.old.disk ≤ D.faults recorder.new.disk }
 {
     let Some(told) = told else {
@@ -92,22 +93,23 @@ pub(crate) fn enter<D: Disk>(
     requires fresh_apart { (id : BodyId) → new_body step.deed ≡ Some id → 2 ≤ id.file }
     requires freed_apart { All (λ f. 2 ≤ f) freed.now }
     requires room { length recorder.old.trace.steps.items < vec_capacity recorder.old.trace.steps }
-    requires ready { D.honest → IsReady (journal_end recorder.old.journal) (D.seen recorder.old.disk 0) (D.past recorder.old.disk (D.moment recorder.old.disk) 0) }
+    requires ready { D.honest recorder.old.disk → IsReady (journal_end recorder.old.journal) (D.seen recorder.old.disk 0) (D.past recorder.old.disk (D.moment recorder.old.disk) 0) }
 
-    ensures live { D.honest → OnOk result ((url : List ℕ) (opening : DeskTable) (start : ℕ) (given : ℕ → List ℕ) → IsEntry (table_after opening recorder.old.trace.steps.items) step given bytes.now row.now freed.now
+    ensures live { D.honest recorder.new.disk → OnOk result ((url : List ℕ) (opening : DeskTable) (start : ℕ) (given : ℕ → List ℕ) → IsEntry (table_after opening recorder.old.trace.steps.items) step given bytes.now row.now freed.now
         → IsLive D.moment D.seen D.past url opening start given recorder.old → IsLive D.moment D.seen D.past url opening start given recorder.new) }
-    ensures left { D.honest → OnErr result ((url : List ℕ) (opening : DeskTable) (start : ℕ) (given : ℕ → List ℕ) → IsEntry (table_after opening recorder.old.trace.steps.items) step given bytes.now row.now freed.now
+    ensures left { D.honest recorder.new.disk → OnErr result ((url : List ℕ) (opening : DeskTable) (start : ℕ) (given : ℕ → List ℕ) → IsEntry (table_after opening recorder.old.trace.steps.items) step given bytes.now row.now freed.now
         → IsLive D.moment D.seen D.past url opening start given recorder.old → IsLeft D.moment D.past url opening start given recorder.new) }
     ensures ended { OnOk result ((recorder.new.trace.steps.items ≡ recorder.old.trace.steps.items ++ record step { moment = D.moment recorder.new.disk } ∷ [])
         × (recorder.new.under ≡ recorder.old.under) × (recorder.new.dead ≡ recorder.old.dead)) }
     ensures stopped { IfErr result (λ e. (e ≡ DiskFault) × (recorder.new.dead ≡ Some DiskFault) × Rose (D.faults recorder.old.disk) (D.faults recorder.new.disk)
         × (recorder.new.trace.steps.items ≡ recorder.old.trace.steps.items)
         × ((recorder.new.under ≡ recorder.old.under) ⊎ (recorder.new.under ≡ Some (record step { moment = D.moment recorder.new.disk })))) }
-    ensures ready { D.honest → OnOk result (IsReady (journal_end recorder.new.journal) (D.seen recorder.new.disk 0) (D.past recorder.new.disk (D.moment recorder.new.disk) 0)) }
-    ensures changes { D.honest → ChangesOnly D.moment D.seen D.past (IsWritten (file_in (new_body step.deed)) freed.now) recorder.old.disk recorder.new.disk }
-    ensures stored { D.honest → OnOk result (row.now ≢ [] → IsStored (file_in (new_body step.deed)) bytes.now freed.now (D.seen recorder.new.disk) (D.past recorder.new.disk (D.moment recorder.new.disk))) }
-    ensures emptied { D.honest → OnOk result (AreEmpty freed.now (D.seen recorder.new.disk) (D.past recorder.new.disk (D.moment recorder.new.disk))) }
+    ensures ready { D.honest recorder.new.disk → OnOk result (IsReady (journal_end recorder.new.journal) (D.seen recorder.new.disk 0) (D.past recorder.new.disk (D.moment recorder.new.disk) 0)) }
+    ensures changes { D.honest recorder.new.disk → ChangesOnly D.moment D.seen D.past (IsWritten (file_in (new_body step.deed)) freed.now) recorder.old.disk recorder.new.disk }
+    ensures stored { D.honest recorder.new.disk → OnOk result (row.now ≢ [] → IsStored (file_in (new_body step.deed)) bytes.now freed.now (D.seen recorder.new.disk) (D.past recorder.new.disk (D.moment recorder.new.disk))) }
+    ensures emptied { D.honest recorder.new.disk → OnOk result (AreEmpty freed.now (D.seen recorder.new.disk) (D.past recorder.new.disk (D.moment recorder.new.disk))) }
     ensures capacity { vec_capacity recorder.old.trace.steps ≤ vec_capacity recorder.new.trace.steps }
+    ensures keeps { D.honest recorder.new.disk → D.honest recorder.old.disk }
     ensures faults { D.faults recorder.old.disk ≤ D.faults recorder.new.disk }
 {
     if row.is_empty() {

@@ -38,7 +38,7 @@ abbrev pub DoesLine : {D : Type 0} → DiskView D → Desk D → Desk D → Stat
 DoesLine view old new before line said text now = DoesDesk view old new (Lines before line) (lined_of said text now)
 
 -- the current path is one, the desk can be asked, and no job is in flight
-pub record IsFit {D : Type 0} (honest : Type 0) (moment : D → ℕ) (seen : D → ℕ → List ℕ) (past : D → ℕ → ℕ → Doubt) (shell : Shell D) : Type 0 where
+pub record IsFit {D : Type 0} (honest : D → Type 0) (moment : D → ℕ) (seen : D → ℕ → List ℕ) (past : D → ℕ → ℕ → Doubt) (shell : Shell D) : Type 0 where
   pub path : IsPath shell.current
   pub readied : IsReadied honest moment seen past shell.desk
   pub resting : IsResting shell.desk.table

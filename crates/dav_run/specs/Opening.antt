@@ -19,13 +19,15 @@ pub record HasStarted {D : Type 0} (view : DiskView D) (url : List ℕ) (disk : 
   pub under : first.recorder.under ≡ None
   pub dead : first.recorder.dead ≡ None
   pub no_fewer : view.faults disk ≤ view.faults first.recorder.disk
-  pub opened : view.honest → (length (view.seen disk 0) < 1099511627776) × IsIndexOf url first.table.index (view.seen disk 0)
-  pub works : view.honest → (table : Table) (given : ℕ → List ℕ) → AllRecover url table given (view.past disk (view.moment disk))
+  pub keeps : view.honest first.recorder.disk → view.honest disk
+  pub opened : view.honest first.recorder.disk → (length (view.seen disk 0) < 1099511627776) × IsIndexOf url first.table.index (view.seen disk 0)
+  pub works : view.honest first.recorder.disk → (table : Table) (given : ℕ → List ℕ) → AllRecover url table given (view.past disk (view.moment disk))
       → (first.table ≡ started table) × Works view url (started table) (view.moment disk) given first
 
 -- A desk that has not started, and why. Where each image recovered to one table, each since then does.
 pub record HasNotStarted {D : Type 0} (view : DiskView D) (url : List ℕ) (disk now : D) (fault : DeskFault) : Type 0 where
-  pub cause : IsStartFault view.honest url (view.seen disk 0) (view.faults disk) (view.faults now) fault
+  pub cause : IsStartFault (view.honest now) url (view.seen disk 0) (view.faults disk) (view.faults now) fault
   pub no_fewer : view.faults disk ≤ view.faults now
-  pub recover : view.honest → (table : Table) (given : ℕ → List ℕ) → AllRecover url table given (view.past disk (view.moment disk))
+  pub keeps : view.honest now → view.honest disk
+  pub recover : view.honest now → (table : Table) (given : ℕ → List ℕ) → AllRecover url table given (view.past disk (view.moment disk))
       → EachImage (view.past now) (view.moment disk) (view.moment now) (Recovers url table given)

@@ -231,14 +231,14 @@ pub fn run<S: Source, O: Sink, V: Wire, D: Disk>(
 ) -> (Status, D, Ended)
     ensures kept { Keeps (texts_of words.now) (S.log input.old) (S.log input.new) (O.log out.old) (O.log out.new)
         (V.log up_wire.old) (V.log up_wire.new) result.2.trace.steps.items result.2.under (end_of result.0 result.2) }
-    ensures headline { D.honest → (base : BaseParts) → IsBase (texts_of words.now) base → (table : Table) (given : ℕ → List ℕ) → AllRecover base.text table given (D.past disk (D.moment disk))
+    ensures headline { D.honest result.1 → (base : BaseParts) → IsBase (texts_of words.now) base → (table : Table) (given : ℕ → List ℕ) → AllRecover base.text table given (D.past disk (D.moment disk))
         → Headline (S.log input.old) (S.log input.new) (V.log up_wire.old) (V.log up_wire.new) (D.past result.1) (D.moment disk) (D.moment result.1) base table given result.2.trace.steps.items result.2.under }
     ensures words { IsRefusal (texts_of words.now) result.0 }
     ensures input { result.0 ≡ status.Input → Rose (S.log input.old).faults (S.log input.new).faults }
     ensures output { result.0 ≡ status.Output → Rose (O.log out.old).faults (O.log out.new).faults }
     ensures disk { result.0 ≡ status.Disk → Rose (D.faults disk) (D.faults result.1) }
-    ensures cache { (fault : Fault) → result.0 ≡ status.Cache fault → IsCacheCause D.honest (texts_of words.now) (D.seen disk) (D.seen result.1) (D.faults disk) (D.faults result.1) fault }
-    ensures index { D.honest → IsGoing result.0 → HasIndex (texts_of words.now) (D.seen disk 0) }
+    ensures cache { (fault : Fault) → result.0 ≡ status.Cache fault → IsCacheCause (D.honest result.1) (texts_of words.now) (D.seen disk) (D.seen result.1) (D.faults disk) (D.faults result.1) fault }
+    ensures index { D.honest result.1 → IsGoing result.0 → HasIndex (texts_of words.now) (D.seen disk 0) }
     ensures memory { result.0 ≡ status.Memory → result.2.starved ≡ true }
     ensures function { result.2.starved ≡ false
         → IsTheRun (texts_of words.now) (S.log input.old) (S.log input.new) (O.log out.old) (O.log out.new)

@@ -32,12 +32,13 @@ impl Bodies {
         bytes: &[u8],
     ) -> Result<BodyId, StoreFault>
         ensures id { IfOk result (λ id. id ≡ id_of file bytes.now) }
-        ensures kept { D.honest → OnOk result (D.past disk.new (D.moment disk.new) file ≡ settled bytes.now) }
-        ensures seen { D.honest → OnOk result (D.seen disk.new file ≡ bytes.now) }
-        ensures touches { D.honest → Touches (λ f. f ≡ file) (D.moment disk.old) (D.moment disk.new) (D.past disk.old) (D.past disk.new) }
-        ensures others { D.honest → OthersStay file (D.seen disk.old) (D.seen disk.new) }
+        ensures kept { D.honest disk.new → OnOk result (D.past disk.new (D.moment disk.new) file ≡ settled bytes.now) }
+        ensures seen { D.honest disk.new → OnOk result (D.seen disk.new file ≡ bytes.now) }
+        ensures touches { D.honest disk.new → Touches (λ f. f ≡ file) (D.moment disk.old) (D.moment disk.new) (D.past disk.old) (D.past disk.new) }
+        ensures others { D.honest disk.new → OthersStay file (D.seen disk.old) (D.seen disk.new) }
         ensures counts { OnOk result (D.moment disk.new ≡ D.moment disk.old + 3) }
         ensures only { OnlyDisk result }
+        ensures keeps { D.honest disk.new → D.honest disk.old }
         ensures cause { IsCaused (D.faults disk.old) (D.faults disk.new) result }
     {
         disk.cut(file, 0)?;
@@ -49,13 +50,14 @@ impl Bodies {
     /// The bytes of a body: the first `len` of its file, or fewer where the file is shorter. Answers `Damaged` where
     /// their SHA-256 is not the body's, and `Memory` only before the first device call.
     pub fn fetch<D: Disk>(&mut self, disk: &mut D, id: &BodyId) -> Result<Blob, StoreFault>
-        ensures bytes { D.honest → IfOk result (λ blob. blob ≡ take id.now.len (D.seen disk.old id.now.file)) }
+        ensures bytes { D.honest disk.new → IfOk result (λ blob. blob ≡ take id.now.len (D.seen disk.old id.now.file)) }
         ensures sum { IfOk result (λ blob. sha256 blob ≡ id.now.sum) }
-        ensures damaged { D.honest → IfErr result (λ e. IsDamage id.now (take id.now.len (D.seen disk.old id.now.file)) e) }
+        ensures damaged { D.honest disk.new → IfErr result (λ e. IsDamage id.now (take id.now.len (D.seen disk.old id.now.file)) e) }
         ensures starved { IfErr result (λ e. e ≡ MemoryFault → disk.new ≡ disk.old) }
-        ensures touches { D.honest → Touches (λ _. ⊥) (D.moment disk.old) (D.moment disk.new) (D.past disk.old) (D.past disk.new) }
-        ensures seen { D.honest → AllStay (D.seen disk.old) (D.seen disk.new) }
+        ensures touches { D.honest disk.new → Touches (λ _. ⊥) (D.moment disk.old) (D.moment disk.new) (D.past disk.old) (D.past disk.new) }
+        ensures seen { D.honest disk.new → AllStay (D.seen disk.old) (D.seen disk.new) }
         ensures counts { OnOk result (D.moment disk.new ≡ D.moment disk.old + 1) }
+        ensures keeps { D.honest disk.new → D.honest disk.old }
         ensures cause { IsCaused (D.faults disk.old) (D.faults disk.new) result }
     {
         let mut bytes = Vec::from_elem(self.alloc, 0u8, id.len as usize)?;
@@ -75,12 +77,13 @@ impl Bodies {
     /// Empties a file. After `Ok` each stop leaves it empty, until it is changed again. Takes no memory, and answers `Disk`
     /// alone.
     pub fn release<D: Disk>(&mut self, disk: &mut D, file: u32) -> Result<(), StoreFault>
-        ensures empty { D.honest → OnOk result (D.past disk.new (D.moment disk.new) file ≡ settled []) }
-        ensures seen { D.honest → OnOk result (D.seen disk.new file ≡ []) }
-        ensures touches { D.honest → Touches (λ f. f ≡ file) (D.moment disk.old) (D.moment disk.new) (D.past disk.old) (D.past disk.new) }
-        ensures others { D.honest → OthersStay file (D.seen disk.old) (D.seen disk.new) }
+        ensures empty { D.honest disk.new → OnOk result (D.past disk.new (D.moment disk.new) file ≡ settled []) }
+        ensures seen { D.honest disk.new → OnOk result (D.seen disk.new file ≡ []) }
+        ensures touches { D.honest disk.new → Touches (λ f. f ≡ file) (D.moment disk.old) (D.moment disk.new) (D.past disk.old) (D.past disk.new) }
+        ensures others { D.honest disk.new → OthersStay file (D.seen disk.old) (D.seen disk.new) }
         ensures counts { OnOk result (D.moment disk.new ≡ D.moment disk.old + 2) }
         ensures only { OnlyDisk result }
+        ensures keeps { D.honest disk.new → D.honest disk.old }
         ensures cause { IsCaused (D.faults disk.old) (D.faults disk.new) result }
     {
         disk.cut(file, 0)?;

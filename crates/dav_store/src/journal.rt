@@ -68,15 +68,16 @@ impl Journal {
     /// The next row that stands, with the offset of its gate; None at the closed gate. Answers `NotACache` where the gate
     /// is missing, or the row is cut off by the file's end or has the length 0.
     pub fn next_row<D: Disk>(&mut self, disk: &mut D) -> Result<Option<(u64, Blob)>, StoreFault>
-        ensures closed { D.honest → IfOk result (λ o. IsNone o → IsClosed (drop (journal_end self.old) (D.seen disk.old 0))) }
-        ensures row { D.honest → IfOk result (λ o. IfSome o (λ p. (p.0 ≡ journal_end self.old) × HasRow p.1 (drop (journal_end self.old) (D.seen disk.old 0)))) }
-        ensures broken { D.honest → IfErr result (λ e. (at : ℕ) → e ≡ NotACache at → (at ≡ journal_end self.old) × IsBroken (drop (journal_end self.old) (D.seen disk.old 0))) }
-        ensures at_rest { D.honest → IfOk result (λ o. IsNone o → (rows : List (List ℕ)) → IsReading rows (journal_end self.old) (D.seen disk.old 0) (D.past disk.old (D.moment disk.old) 0)
+        ensures closed { D.honest disk.new → IfOk result (λ o. IsNone o → IsClosed (drop (journal_end self.old) (D.seen disk.old 0))) }
+        ensures row { D.honest disk.new → IfOk result (λ o. IfSome o (λ p. (p.0 ≡ journal_end self.old) × HasRow p.1 (drop (journal_end self.old) (D.seen disk.old 0)))) }
+        ensures broken { D.honest disk.new → IfErr result (λ e. (at : ℕ) → e ≡ NotACache at → (at ≡ journal_end self.old) × IsBroken (drop (journal_end self.old) (D.seen disk.old 0))) }
+        ensures at_rest { D.honest disk.new → IfOk result (λ o. IsNone o → (rows : List (List ℕ)) → IsReading rows (journal_end self.old) (D.seen disk.old 0) (D.past disk.old (D.moment disk.old) 0)
             → IsAtRest rows (journal_end self.new) (D.seen disk.new 0) (D.past disk.new (D.moment disk.new) 0)) }
-        ensures reading { D.honest → IfOk result (λ o. IfSome o (λ p. (rows : List (List ℕ)) → IsReading rows (journal_end self.old) (D.seen disk.old 0) (D.past disk.old (D.moment disk.old) 0)
+        ensures reading { D.honest disk.new → IfOk result (λ o. IfSome o (λ p. (rows : List (List ℕ)) → IsReading rows (journal_end self.old) (D.seen disk.old 0) (D.past disk.old (D.moment disk.old) 0)
             → IsReading (rows ++ p.1 ∷ []) (journal_end self.new) (D.seen disk.new 0) (D.past disk.new (D.moment disk.new) 0))) }
-        ensures touches { D.honest → Touches (λ _. ⊥) (D.moment disk.old) (D.moment disk.new) (D.past disk.old) (D.past disk.new) }
-        ensures seen { D.honest → AllStay (D.seen disk.old) (D.seen disk.new) }
+        ensures touches { D.honest disk.new → Touches (λ _. ⊥) (D.moment disk.old) (D.moment disk.new) (D.past disk.old) (D.past disk.new) }
+        ensures seen { D.honest disk.new → AllStay (D.seen disk.old) (D.seen disk.new) }
+        ensures keeps { D.honest disk.new → D.honest disk.old }
         ensures cause { IsCaused (D.faults disk.old) (D.faults disk.new) result }
         ensures undamaged { IfErr result IsNoDamage }
         ensures rows { IfOk result (λ o. journal_rows self.new ≡ (if is_some o then min (journal_rows self.old + 1) 18446744073709551615 else journal_rows self.old)) }
@@ -106,17 +107,18 @@ impl Journal {
     /// `Ok`, with it. Takes no memory, and answers `Disk` alone; a journal that did is not to be added to.
     pub fn append<D: Disk>(&mut self, disk: &mut D, payload: &[u8]) -> Result<(), StoreFault>
         requires fits { IsPayload payload.now }
-        requires ready { D.honest → IsReady (journal_end self.old) (D.seen disk.old 0) (D.past disk.old (D.moment disk.old) 0) }
+        requires ready { D.honest disk.old → IsReady (journal_end self.old) (D.seen disk.old 0) (D.past disk.old (D.moment disk.old) 0) }
 
-        ensures appended { D.honest → OnOk result ((rows : List (List ℕ)) → IsAtRest rows (journal_end self.old) (D.seen disk.old 0) (D.past disk.old (D.moment disk.old) 0)
+        ensures appended { D.honest disk.new → OnOk result ((rows : List (List ℕ)) → IsAtRest rows (journal_end self.old) (D.seen disk.old 0) (D.past disk.old (D.moment disk.old) 0)
             → IsAtRest (rows ++ payload.now ∷ []) (journal_end self.new) (D.seen disk.new 0) (D.past disk.new (D.moment disk.new) 0)) }
-        ensures any_moment { D.honest → (rows : List (List ℕ)) → IsAtRest rows (journal_end self.old) (D.seen disk.old 0) (D.past disk.old (D.moment disk.old) 0)
+        ensures any_moment { D.honest disk.new → (rows : List (List ℕ)) → IsAtRest rows (journal_end self.old) (D.seen disk.old 0) (D.past disk.old (D.moment disk.old) 0)
             → LeavesOnly (D.past disk.new) 0 (D.moment disk.old) (D.moment disk.new) (IsBeforeOrAfter rows payload.now) }
-        ensures ready { D.honest → OnOk result (IsReady (journal_end self.new) (D.seen disk.new 0) (D.past disk.new (D.moment disk.new) 0)) }
-        ensures touches { D.honest → Touches (λ f. f ≡ 0) (D.moment disk.old) (D.moment disk.new) (D.past disk.old) (D.past disk.new) }
-        ensures others { D.honest → OthersStay 0 (D.seen disk.old) (D.seen disk.new) }
+        ensures ready { D.honest disk.new → OnOk result (IsReady (journal_end self.new) (D.seen disk.new 0) (D.past disk.new (D.moment disk.new) 0)) }
+        ensures touches { D.honest disk.new → Touches (λ f. f ≡ 0) (D.moment disk.old) (D.moment disk.new) (D.past disk.old) (D.past disk.new) }
+        ensures others { D.honest disk.new → OthersStay 0 (D.seen disk.old) (D.seen disk.new) }
         ensures counts { OnOk result (D.moment disk.new ≡ D.moment disk.old + 4) }
         ensures only { OnlyDisk result }
+        ensures keeps { D.honest disk.new → D.honest disk.old }
         ensures cause { IsCaused (D.faults disk.old) (D.faults disk.new) result }
         ensures rows { journal_rows self.new ≡ (if is_ok result then min (journal_rows self.old + 1) 18446744073709551615 else journal_rows self.old) }
         ensures head { journal_head self.new ≡ journal_head self.old }

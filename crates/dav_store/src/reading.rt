@@ -16,11 +16,12 @@ pub(crate) fn row_at<D: Disk>(
     disk: &mut D,
     gate: u64,
 ) -> Result<Option<Blob>, StoreFault>
-    ensures closed { D.honest → IfOk result (λ o. IsNone o → IsClosed (drop gate (D.seen disk.old 0))) }
-    ensures row { D.honest → IfOk result (λ o. IfSome o (λ row. HasRow row (drop gate (D.seen disk.old 0)))) }
-    ensures broken { D.honest → IfErr result (λ e. (at : ℕ) → e ≡ NotACache at → (at ≡ gate) × IsBroken (drop gate (D.seen disk.old 0))) }
-    ensures touches { D.honest → Touches (λ _. ⊥) (D.moment disk.old) (D.moment disk.new) (D.past disk.old) (D.past disk.new) }
-    ensures seen { D.honest → AllStay (D.seen disk.old) (D.seen disk.new) }
+    ensures closed { D.honest disk.new → IfOk result (λ o. IsNone o → IsClosed (drop gate (D.seen disk.old 0))) }
+    ensures row { D.honest disk.new → IfOk result (λ o. IfSome o (λ row. HasRow row (drop gate (D.seen disk.old 0)))) }
+    ensures broken { D.honest disk.new → IfErr result (λ e. (at : ℕ) → e ≡ NotACache at → (at ≡ gate) × IsBroken (drop gate (D.seen disk.old 0))) }
+    ensures touches { D.honest disk.new → Touches (λ _. ⊥) (D.moment disk.old) (D.moment disk.new) (D.past disk.old) (D.past disk.new) }
+    ensures seen { D.honest disk.new → AllStay (D.seen disk.old) (D.seen disk.new) }
+    ensures keeps { D.honest disk.new → D.honest disk.old }
     ensures cause { IsCaused (D.faults disk.old) (D.faults disk.new) result }
     ensures undamaged { IfErr result IsNoDamage }
 {
@@ -43,10 +44,11 @@ fn payload_of<D: Disk>(
     gate: u64,
     len: usize,
 ) -> Result<Blob, StoreFault>
-    ensures bytes { D.honest → IfOk result (λ blob. (blob ≡ take len (drop (gate + 3) (D.seen disk.old 0))) × (length blob ≡ len)) }
-    ensures broken { D.honest → IfErr result (λ e. (at : ℕ) → e ≡ NotACache at → (at ≡ gate) × (length (drop (gate + 3) (D.seen disk.old 0)) < len)) }
-    ensures touches { D.honest → Touches (λ _. ⊥) (D.moment disk.old) (D.moment disk.new) (D.past disk.old) (D.past disk.new) }
-    ensures seen { D.honest → AllStay (D.seen disk.old) (D.seen disk.new) }
+    ensures bytes { D.honest disk.new → IfOk result (λ blob. (blob ≡ take len (drop (gate + 3) (D.seen disk.old 0))) × (length blob ≡ len)) }
+    ensures broken { D.honest disk.new → IfErr result (λ e. (at : ℕ) → e ≡ NotACache at → (at ≡ gate) × (length (drop (gate + 3) (D.seen disk.old 0)) < len)) }
+    ensures touches { D.honest disk.new → Touches (λ _. ⊥) (D.moment disk.old) (D.moment disk.new) (D.past disk.old) (D.past disk.new) }
+    ensures seen { D.honest disk.new → AllStay (D.seen disk.old) (D.seen disk.new) }
+    ensures keeps { D.honest disk.new → D.honest disk.old }
     ensures cause { IsCaused (D.faults disk.old) (D.faults disk.new) result }
     ensures undamaged { IfErr result IsNoDamage }
 {

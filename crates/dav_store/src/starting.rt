@@ -29,11 +29,12 @@ pub(crate) enum Found {
 
 /// Settles the index file, and looks what is in it.
 fn look<D: Disk>(disk: &mut D) -> Result<Found, Failed>
-    ensures found { D.honest → IfOk result (IsFound (D.seen disk.old 0)) }
-    ensures durable { D.honest → OnOk result (D.past disk.new (D.moment disk.new) 0 ≡ settled (D.seen disk.old 0)) }
-    ensures any_moment { D.honest → LeavesOnly (D.past disk.new) 0 (D.moment disk.old) (D.moment disk.new) (IsOutcome (D.past disk.old (D.moment disk.old) 0)) }
-    ensures touches { D.honest → Touches (λ f. f ≡ 0) (D.moment disk.old) (D.moment disk.new) (D.past disk.old) (D.past disk.new) }
-    ensures seen { D.honest → AllStay (D.seen disk.old) (D.seen disk.new) }
+    ensures found { D.honest disk.new → IfOk result (IsFound (D.seen disk.old 0)) }
+    ensures durable { D.honest disk.new → OnOk result (D.past disk.new (D.moment disk.new) 0 ≡ settled (D.seen disk.old 0)) }
+    ensures any_moment { D.honest disk.new → LeavesOnly (D.past disk.new) 0 (D.moment disk.old) (D.moment disk.new) (IsOutcome (D.past disk.old (D.moment disk.old) 0)) }
+    ensures touches { D.honest disk.new → Touches (λ f. f ≡ 0) (D.moment disk.old) (D.moment disk.new) (D.past disk.old) (D.past disk.new) }
+    ensures seen { D.honest disk.new → AllStay (D.seen disk.old) (D.seen disk.new) }
+    ensures keeps { D.honest disk.new → D.honest disk.old }
     ensures cause { HasCause (D.faults disk.old) (D.faults disk.new) result }
 {
     disk.sync(0)?;
@@ -59,12 +60,13 @@ fn found_in(size: u64, gate: &[u8]) -> Found
 
 /// Makes the first gate a closed one, where it is not.
 fn ready_gate<D: Disk>(disk: &mut D, closed: bool) -> Result<(), Failed>
-    ensures at_rest { D.honest → IsFound (D.seen disk.old 0) (Nothing closed) → D.past disk.old (D.moment disk.old) 0 ≡ settled (D.seen disk.old 0)
+    ensures at_rest { D.honest disk.new → IsFound (D.seen disk.old 0) (Nothing closed) → D.past disk.old (D.moment disk.old) 0 ≡ settled (D.seen disk.old 0)
         → OnOk result (IsAtRest [] 0 (D.seen disk.new 0) (D.past disk.new (D.moment disk.new) 0)) }
-    ensures any_moment { D.honest → IsFound (D.seen disk.old 0) (Nothing closed) → D.past disk.old (D.moment disk.old) 0 ≡ settled (D.seen disk.old 0)
+    ensures any_moment { D.honest disk.new → IsFound (D.seen disk.old 0) (Nothing closed) → D.past disk.old (D.moment disk.old) 0 ≡ settled (D.seen disk.old 0)
         → LeavesOnly (D.past disk.new) 0 (D.moment disk.old) (D.moment disk.new) IsNothing }
-    ensures touches { D.honest → Touches (λ f. f ≡ 0) (D.moment disk.old) (D.moment disk.new) (D.past disk.old) (D.past disk.new) }
-    ensures others { D.honest → OthersStay 0 (D.seen disk.old) (D.seen disk.new) }
+    ensures touches { D.honest disk.new → Touches (λ f. f ≡ 0) (D.moment disk.old) (D.moment disk.new) (D.past disk.old) (D.past disk.new) }
+    ensures others { D.honest disk.new → OthersStay 0 (D.seen disk.old) (D.seen disk.new) }
+    ensures keeps { D.honest disk.new → D.honest disk.old }
     ensures cause { HasCause (D.faults disk.old) (D.faults disk.new) result }
 {
     if closed {
@@ -81,20 +83,21 @@ impl Journal {
         requires head { IsHead head.now }
         requires fits { IsPayload head.now }
 
-        ensures reading { D.honest → IfOk result (λ j. IsReading (journal_head j ∷ []) (journal_end j) (D.seen disk.new 0) (D.past disk.new (D.moment disk.new) 0)) }
-        ensures made { D.honest → IsNothing (D.seen disk.old 0) → IfOk result (λ j. (journal_head j ≡ head.now)
+        ensures reading { D.honest disk.new → IfOk result (λ j. IsReading (journal_head j ∷ []) (journal_end j) (D.seen disk.new 0) (D.past disk.new (D.moment disk.new) 0)) }
+        ensures made { D.honest disk.new → IsNothing (D.seen disk.old 0) → IfOk result (λ j. (journal_head j ≡ head.now)
             × IsAtRest (head.now ∷ []) (journal_end j) (D.seen disk.new 0) (D.past disk.new (D.moment disk.new) 0)) }
-        ensures opened { D.honest → (IsNothing (D.seen disk.old 0) → ⊥) → IfOk result (λ j. IsHead (journal_head j) × HasRow (journal_head j) (D.seen disk.old 0)) }
-        ensures short { D.honest → OnOk result (length (D.seen disk.old 0) < 1099511627776) }
-        ensures refused { D.honest → IfErr result (λ e. (at : ℕ) → e ≡ NotACache at → IsRefused at (D.seen disk.old 0)) }
-        ensures stays { D.honest → (IsNothing (D.seen disk.old 0) → ⊥)
+        ensures opened { D.honest disk.new → (IsNothing (D.seen disk.old 0) → ⊥) → IfOk result (λ j. IsHead (journal_head j) × HasRow (journal_head j) (D.seen disk.old 0)) }
+        ensures short { D.honest disk.new → OnOk result (length (D.seen disk.old 0) < 1099511627776) }
+        ensures refused { D.honest disk.new → IfErr result (λ e. (at : ℕ) → e ≡ NotACache at → IsRefused at (D.seen disk.old 0)) }
+        ensures stays { D.honest disk.new → (IsNothing (D.seen disk.old 0) → ⊥)
             → LeavesOnly (D.past disk.new) 0 (D.moment disk.old) (D.moment disk.new) (IsOutcome (D.past disk.old (D.moment disk.old) 0)) }
-        ensures any_moment { D.honest → LeavesOnly (D.past disk.new) 0 (D.moment disk.old) (D.moment disk.new)
+        ensures any_moment { D.honest disk.new → LeavesOnly (D.past disk.new) 0 (D.moment disk.old) (D.moment disk.new)
             (λ c. IsOutcome (D.past disk.old (D.moment disk.old) 0) c ⊎ (IsNothing c ⊎ Spells (head.now ∷ []) c)) }
-        ensures same { D.honest → (IsNothing (D.seen disk.old 0) → ⊥) → D.seen disk.new 0 ≡ D.seen disk.old 0 }
-        ensures touches { D.honest → Touches (λ f. f ≡ 0) (D.moment disk.old) (D.moment disk.new) (D.past disk.old) (D.past disk.new) }
-        ensures others { D.honest → OthersStay 0 (D.seen disk.old) (D.seen disk.new) }
+        ensures same { D.honest disk.new → (IsNothing (D.seen disk.old 0) → ⊥) → D.seen disk.new 0 ≡ D.seen disk.old 0 }
+        ensures touches { D.honest disk.new → Touches (λ f. f ≡ 0) (D.moment disk.old) (D.moment disk.new) (D.past disk.old) (D.past disk.new) }
+        ensures others { D.honest disk.new → OthersStay 0 (D.seen disk.old) (D.seen disk.new) }
         ensures rows { IfOk result (λ j. journal_rows j ≡ 1) }
+        ensures keeps { D.honest disk.new → D.honest disk.old }
         ensures cause { IsCaused (D.faults disk.old) (D.faults disk.new) result }
         ensures undamaged { IfErr result IsNoDamage }
     {
@@ -116,15 +119,16 @@ impl Journal {
         requires fits { IsPayload head.now }
         requires fresh { journal_end self ≡ 0 }
         requires none { journal_rows self ≡ 0 }
-        requires found { D.honest → IsFound (D.seen disk.old 0) (Nothing closed) × (D.past disk.old (D.moment disk.old) 0 ≡ settled (D.seen disk.old 0)) }
+        requires found { D.honest disk.old → IsFound (D.seen disk.old 0) (Nothing closed) × (D.past disk.old (D.moment disk.old) 0 ≡ settled (D.seen disk.old 0)) }
 
-        ensures made { D.honest → IfOk result (λ j. IsAtRest (head.now ∷ []) (journal_end j) (D.seen disk.new 0) (D.past disk.new (D.moment disk.new) 0)) }
-        ensures any_moment { D.honest → LeavesOnly (D.past disk.new) 0 (D.moment disk.old) (D.moment disk.new) (λ c. IsNothing c ⊎ Spells (head.now ∷ []) c) }
-        ensures touches { D.honest → Touches (λ f. f ≡ 0) (D.moment disk.old) (D.moment disk.new) (D.past disk.old) (D.past disk.new) }
-        ensures others { D.honest → OthersStay 0 (D.seen disk.old) (D.seen disk.new) }
+        ensures made { D.honest disk.new → IfOk result (λ j. IsAtRest (head.now ∷ []) (journal_end j) (D.seen disk.new 0) (D.past disk.new (D.moment disk.new) 0)) }
+        ensures any_moment { D.honest disk.new → LeavesOnly (D.past disk.new) 0 (D.moment disk.old) (D.moment disk.new) (λ c. IsNothing c ⊎ Spells (head.now ∷ []) c) }
+        ensures touches { D.honest disk.new → Touches (λ f. f ≡ 0) (D.moment disk.old) (D.moment disk.new) (D.past disk.old) (D.past disk.new) }
+        ensures others { D.honest disk.new → OthersStay 0 (D.seen disk.old) (D.seen disk.new) }
         ensures head { IfOk result (λ j. journal_head j ≡ journal_head self) }
         ensures rows { IfOk result (λ j. journal_rows j ≡ 1) }
         ensures only { IfErr result (λ e. (at : ℕ) → e ≡ NotACache at → ⊥) }
+        ensures keeps { D.honest disk.new → D.honest disk.old }
         ensures cause { IsCaused (D.faults disk.old) (D.faults disk.new) result }
         ensures undamaged { IfErr result IsNoDamage }
     {
@@ -138,13 +142,14 @@ impl Journal {
         requires fresh { journal_end self ≡ 0 }
         requires none { journal_rows self ≡ 0 }
 
-        ensures reading { D.honest → D.past disk.old (D.moment disk.old) 0 ≡ settled (D.seen disk.old 0)
+        ensures reading { D.honest disk.new → D.past disk.old (D.moment disk.old) 0 ≡ settled (D.seen disk.old 0)
             → IfOk result (λ j. IsReading (journal_head j ∷ []) (journal_end j) (D.seen disk.new 0) (D.past disk.new (D.moment disk.new) 0)) }
-        ensures opened { D.honest → IfOk result (λ j. IsHead (journal_head j) × HasRow (journal_head j) (D.seen disk.old 0)) }
-        ensures refused { D.honest → (IsNothing (D.seen disk.old 0) → ⊥) → IfErr result (λ e. (at : ℕ) → e ≡ NotACache at → (at ≡ 0) × LacksHead (D.seen disk.old 0)) }
-        ensures touches { D.honest → Touches (λ _. ⊥) (D.moment disk.old) (D.moment disk.new) (D.past disk.old) (D.past disk.new) }
-        ensures seen { D.honest → AllStay (D.seen disk.old) (D.seen disk.new) }
+        ensures opened { D.honest disk.new → IfOk result (λ j. IsHead (journal_head j) × HasRow (journal_head j) (D.seen disk.old 0)) }
+        ensures refused { D.honest disk.new → (IsNothing (D.seen disk.old 0) → ⊥) → IfErr result (λ e. (at : ℕ) → e ≡ NotACache at → (at ≡ 0) × LacksHead (D.seen disk.old 0)) }
+        ensures touches { D.honest disk.new → Touches (λ _. ⊥) (D.moment disk.old) (D.moment disk.new) (D.past disk.old) (D.past disk.new) }
+        ensures seen { D.honest disk.new → AllStay (D.seen disk.old) (D.seen disk.new) }
         ensures rows { IfOk result (λ j. journal_rows j ≡ 1) }
+        ensures keeps { D.honest disk.new → D.honest disk.old }
         ensures cause { IsCaused (D.faults disk.old) (D.faults disk.new) result }
         ensures undamaged { IfErr result IsNoDamage }
     {

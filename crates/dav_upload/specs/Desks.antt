@@ -14,13 +14,13 @@ use Rattle.dav_upload.specs.Asking.{asking, Met, Asked, Answered, table_met, ans
 
 -- what the trait of a disk tells of one
 pub record DiskView (D : Type 0) : Type 1 where
-  pub honest : Type 0
+  pub honest : D → Type 0
   pub moment : D → ℕ
   pub seen : D → ℕ → List ℕ
   pub past : D → ℕ → ℕ → Doubt
   pub faults : D → ℕ
 
-abbrev pub disk_view : {D : Type 0} → Type 0 → (D → ℕ) → (D → ℕ → List ℕ) → (D → ℕ → ℕ → Doubt) → (D → ℕ) → DiskView D
+abbrev pub disk_view : {D : Type 0} → (D → Type 0) → (D → ℕ) → (D → ℕ → List ℕ) → (D → ℕ → ℕ → Doubt) → (D → ℕ) → DiskView D
 disk_view honest moment seen past faults = record { honest = honest; moment = moment; seen = seen; past = past; faults = faults }
 
 abbrev pub Works : {D : Type 0} → DiskView D → List ℕ → DeskTable → ℕ → (ℕ → List ℕ) → Desk D → Type 0
@@ -45,12 +45,13 @@ pub record WasAsked {D : Type 0} (view : DiskView D) (e : Asked) (old new : Desk
   pub table : new.table ≡ table_met old.table e.asked e.answer
   pub steps : new.recorder.trace.steps.items ≡ old.recorder.trace.steps.items ++ steps_by e.answer.verdict old.table e.asked.who e.asked.now e.asked.ask (view.moment new.recorder.disk)
   pub cause : HasCause view.honest view.moment view.seen view.faults e.asked.who e.asked.now e.asked.ask e.answer.verdict old new
-  pub working : view.honest → (url : List ℕ) (opening : DeskTable) (start : ℕ) (given : ℕ → List ℕ) → AreGiven old.table given e.asked.ask → Works view url opening start given old
+  pub working : view.honest new.recorder.disk → (url : List ℕ) (opening : DeskTable) (start : ℕ) (given : ℕ → List ℕ) → AreGiven old.table given e.asked.ask → Works view url opening start given old
       → new.recorder.dead ≡ None → Works view url opening start given new
-  pub stopped : view.honest → (url : List ℕ) (opening : DeskTable) (start : ℕ) (given : ℕ → List ℕ) → AreGiven old.table given e.asked.ask → Works view url opening start given old
+  pub stopped : view.honest new.recorder.disk → (url : List ℕ) (opening : DeskTable) (start : ℕ) (given : ℕ → List ℕ) → AreGiven old.table given e.asked.ask → Works view url opening start given old
       → new.recorder.dead ≢ None → Stops view url opening start given new
-  pub bytes : view.honest → (url : List ℕ) (opening : DeskTable) (start : ℕ) (given : ℕ → List ℕ) → Works view url opening start given old → HasBytesIf given (answer_met old.table e.asked e.answer)
+  pub bytes : view.honest new.recorder.disk → (url : List ℕ) (opening : DeskTable) (start : ℕ) (given : ℕ → List ℕ) → Works view url opening start given old → HasBytesIf given (answer_met old.table e.asked e.answer)
   pub sums : HasSumIf (answer_met old.table e.asked e.answer)
+  pub keeps : view.honest new.recorder.disk → view.honest old.recorder.disk
   pub no_fewer : view.faults old.recorder.disk ≤ view.faults new.recorder.disk
 
 -- the desk was asked these, one after another

@@ -36,10 +36,10 @@ pub fn drain<V: Wire, D: Disk>(
     requires time { now < 18446744073709551615 }
 
     ensures does { Does pair (PairGrew (disk_view D.honest D.moment D.seen D.past D.faults) (V.log wire.old) (V.log wire.new) desk.old desk.new) (Drains base.now now desk.old.table) (result, desk.new.table) }
-    ensures work { D.honest → (url : List ℕ) (opening : DeskTable) (start : ℕ) (given : ℕ → List ℕ) (begun : DeviceLog)
+    ensures work { D.honest desk.new.recorder.disk → (url : List ℕ) (opening : DeskTable) (start : ℕ) (given : ℕ → List ℕ) (begun : DeviceLog)
         → IsAtWork (disk_view D.honest D.moment D.seen D.past D.faults) base.now url opening start given begun (V.log wire.old) desk.old
         → IsAfter result (disk_view D.honest D.moment D.seen D.past D.faults) base.now url opening start given begun (V.log wire.new) desk.new }
-    ensures outlives { D.honest → (url : List ℕ) (opening : DeskTable) (start : ℕ) (given : ℕ → List ℕ) (begun : DeviceLog)
+    ensures outlives { D.honest desk.new.recorder.disk → (url : List ℕ) (opening : DeskTable) (start : ℕ) (given : ℕ → List ℕ) (begun : DeviceLog)
         → IsAtWork (disk_view D.honest D.moment D.seen D.past D.faults) base.now url opening start given begun (V.log wire.old) desk.old
         → AllOutlive (disk_view D.honest D.moment D.seen D.past D.faults) base.now url opening start given begun (V.log wire.new) desk.new }
     ensures emptied { OnOk result ((next_due now true desk.new.table.index.entries ≡ None) × IsResting desk.new.table × (desk.new.table.stopping ≡ true)) }

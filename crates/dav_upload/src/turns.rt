@@ -32,7 +32,7 @@ pub fn turn<V: Wire, D: Disk>(
     requires readied { IsReadied D.honest D.moment D.seen D.past desk.old }
 
     ensures does { Does pair (PairGrew (disk_view D.honest D.moment D.seen D.past D.faults) (V.log wire.old) (V.log wire.new) desk.old desk.new) (TurnsOf base.now now desk.old.table) (result, desk.new.table) }
-    ensures work { D.honest → (url : List ℕ) (opening : DeskTable) (start : ℕ) (given : ℕ → List ℕ) (begun : DeviceLog)
+    ensures work { D.honest desk.new.recorder.disk → (url : List ℕ) (opening : DeskTable) (start : ℕ) (given : ℕ → List ℕ) (begun : DeviceLog)
         → IsAtWork (disk_view D.honest D.moment D.seen D.past D.faults) base.now url opening start given begun (V.log wire.old) desk.old
         → IsAfter result (disk_view D.honest D.moment D.seen D.past D.faults) base.now url opening start given begun (V.log wire.new) desk.new }
     ensures sound { IsSound desk.old.table → IsSound desk.new.table }
