@@ -9,6 +9,8 @@ over_none bytes = ap (λ (l : List ℕ). bytes ++ l) (drop_all (0 + length bytes
 
 pub returns-clause-kept : goal.returns-clause-kept
 returns-clause-kept g c h =
+    let h2 = c.sync.ensures.keeps h in
+    let h1 = c.write_at.ensures.keeps h2 in
     let written : g.D.Disk.seen c.write_at.new.self c.args.file ≡ c.args.bytes.now =
-    c.in_ok-write_at.ensures.written h ∙ ap (λ (s : List ℕ). overwritten s 0 c.args.bytes.now) (c.in_ok-cut.ensures.cut h) ∙ over_none c.args.bytes.now in
+    c.in_ok-write_at.ensures.written h2 ∙ ap (λ (s : List ℕ). overwritten s 0 c.args.bytes.now) (c.in_ok-cut.ensures.cut h1) ∙ over_none c.args.bytes.now in
     doubt_now (c.in_ok-sync.ensures.durable h) c.in_ok-sync.ensures.counts.one_more ∙ ap settled written

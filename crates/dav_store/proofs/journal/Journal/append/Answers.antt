@@ -11,10 +11,10 @@ returns-clause-any_moment g c h rows r = c.open_row.ensures.any_moment h rows c.
 
 pub returns-clause-ready : goal.returns-clause-ready
 returns-clause-ready g c h =
-    let q = c.requires.ready h in
+    let q = c.requires.ready (c.open_row.ensures.keeps h) in
     let row = c.args.payload.now in
     let disk = c.open_row.new.disk in
     let rest = c.in_ok-open_row.ensures.added h q.0 row c.requires.fits (c.as_slice.ensures.value ∙ c.stage.ensures.text) q.1 in
     let inside = at_rest_length rest in
-    let is : c.pass.new.self.end ≡ c.args.self.now.end + length row + 3 = omega (arith, c.pass.ensures.end, g.met.D.Disk.fits h disk 0, inside) in
+    let is : c.pass.new.self.end ≡ c.args.self.now.end + length row + 3 = omega (arith, c.pass.ensures.end, g.met.D.Disk.fits disk h 0, inside) in
     (q.0 ++ row ∷ [], subst (λ (n : ℕ). IsAtRest (q.0 ++ row ∷ []) n (g.D.Disk.seen disk 0) (g.D.Disk.past disk (g.D.Disk.moment disk) 0)) (sym is) rest)
