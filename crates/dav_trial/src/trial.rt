@@ -1,6 +1,9 @@
-ghost use Rattle.std.specs.Prelude.{◌≡◌, ⊤, length, IfOk};
+ghost use Rattle.std.specs.Prelude.{◌≡◌, ◌≤◌, ⊤, ℕ, List, length, IfOk, OnOk};
+ghost use Rattle.dav_store.specs.Rows.{IsReading, IsReady};
+ghost use Rattle.dav_store.specs.View.{journal_end};
 
-use dav_real::FolderDisk;
+use dav_disk::{Disk, Modelled};
+use dav_real::{FolderCalls, Unknown};
 use dav_store::{Bodies, BodyId, Journal, StoreFault, head_payload};
 use dav_text::Memory;
 use std::alloc::Global;
@@ -53,7 +56,9 @@ fn body_of(alloc: Global, number: u64) -> Result<Vec<u8>, Stop> {
 }
 
 /// The file of the body of that number.
-fn file_of(number: u64) -> u32 {
+fn file_of(number: u64) -> u32
+    ensures { 2 ≤ result }
+{
     (number % 1_000_000) as u32 + 2
 }
 
@@ -66,41 +71,69 @@ fn row_of(number: u64, id: &BodyId) -> [u8; 48] {
     row
 }
 
+/// Compares a row that stands, and its body, with what was to be written.
+fn check_row<D: Disk>(alloc: Global, disk: &mut D, number: u64, row: &[u8]) -> Result<(), Stop>
+    ensures reading { D.honest disk.new → (rows : List (List ℕ)) (end : ℕ) → IsReading rows end (D.seen disk.old 0) (D.past disk.old (D.moment disk.old) 0)
+        → IsReading rows end (D.seen disk.new 0) (D.past disk.new (D.moment disk.new) 0) }
+    ensures keeps { D.honest disk.new → D.honest disk.old }
+{
+    let bytes = body_of(alloc, number)?;
+    let id = BodyId::of(file_of(number), bytes.as_slice());
+    let body = Bodies::new(alloc).fetch(disk, &id)?;
+    if row != row_of(number, &id).as_slice() || body.as_slice() != bytes.as_slice() {
+        return Err(Stop::Differs(number));
+    }
+    Ok(())
+}
+
 /// Reads each row that stands, with its body, and says how many there are.
-fn check_rows<R: Files + AllocGlobal>(
-    alloc: Global,
-    disk: &mut FolderDisk<'_, R>,
-    journal: &mut Journal,
-) -> Result<u64, Stop> {
-    let mut bodies = Bodies::new(alloc);
+fn check_rows<D: Disk>(alloc: Global, disk: &mut D, journal: &mut Journal) -> Result<u64, Stop>
+    ensures ready { D.honest disk.new → OnOk result ((rows : List (List ℕ)) → IsReading rows (journal_end journal.old) (D.seen disk.old 0) (D.past disk.old (D.moment disk.old) 0)
+        → IsReady (journal_end journal.new) (D.seen disk.new 0) (D.past disk.new (D.moment disk.new) 0)) }
+    ensures keeps { D.honest disk.new → D.honest disk.old }
+{
     for number in 0..u64::MAX {
-        let Some((_, row)) = journal.next_row(disk)? else {
-            return Ok(number);
-        };
-        let bytes = body_of(alloc, number)?;
-        let id = BodyId::of(file_of(number), bytes.as_slice());
-        let body = bodies.fetch(disk, &id)?;
-        if row.as_slice() != row_of(number, &id).as_slice() || body.as_slice() != bytes.as_slice() {
-            return Err(Stop::Differs(number));
+        match journal.next_row(disk)? {
+            None => return Ok(number),
+            Some((_, row)) => check_row(alloc, disk, number, row.as_slice())?,
         }
     }
     Err(Stop::Memory)
 }
 
 /// Opens the index, made where nothing stands, and reads all rows.
-fn begin<R: Files + AllocGlobal>(
-    alloc: Global,
-    disk: &mut FolderDisk<'_, R>,
-) -> Result<(Journal, u64), Stop> {
+fn begin<D: Disk>(alloc: Global, disk: &mut D) -> Result<(Journal, u64), Stop>
+    ensures { D.honest disk.new → IfOk result (λ both. IsReady (journal_end both.0) (D.seen disk.new 0) (D.past disk.new (D.moment disk.new) 0)) }
+{
     let head = head_payload(alloc, b"http://h/")?;
     let mut journal = Journal::start(alloc, disk, head.as_slice())?;
     let count = check_rows(alloc, disk, &mut journal)?;
     Ok((journal, count))
 }
 
+/// Adds bodies and rows from that number on, and says the number of each row that is acknowledged.
+fn add_rows<R: AllocGlobal + Print, D: Disk>(
+    rt: &R,
+    disk: &mut D,
+    journal: &mut Journal,
+    first: u64,
+) -> Result<(), Stop>
+    requires { D.honest disk.old → IsReady (journal_end journal.old) (D.seen disk.old 0) (D.past disk.old (D.moment disk.old) 0) }
+{
+    let alloc = rt.alloc();
+    let mut bodies = Bodies::new(alloc);
+    for number in first..u64::MAX {
+        let bytes = body_of(alloc, number)?;
+        let id = bodies.keep(disk, file_of(number), bytes.as_slice())?;
+        journal.append(disk, row_of(number, &id).as_slice())?;
+        println!(rt; "{number}")?;
+    }
+    Ok(())
+}
+
 /// Says how many rows stand, each with its body.
 pub fn read_all<R: Files + AllocGlobal + Print>(rt: &R, folder: &str) -> Result<(), Stop> {
-    let mut disk = FolderDisk::new(rt, folder);
+    let mut disk = Modelled::new(FolderCalls::new(rt, folder), Unknown);
     let (_, count) = begin(rt.alloc(), &mut disk)?;
     println!(rt; "{count}")?;
     Ok(())
@@ -108,15 +141,7 @@ pub fn read_all<R: Files + AllocGlobal + Print>(rt: &R, folder: &str) -> Result<
 
 /// Adds bodies and rows, and says the number of each row that is acknowledged.
 pub fn write_rows<R: Files + AllocGlobal + Print>(rt: &R, folder: &str) -> Result<(), Stop> {
-    let alloc = rt.alloc();
-    let mut disk = FolderDisk::new(rt, folder);
-    let (mut journal, count) = begin(alloc, &mut disk)?;
-    let mut bodies = Bodies::new(alloc);
-    for number in count..u64::MAX {
-        let bytes = body_of(alloc, number)?;
-        let id = bodies.keep(&mut disk, file_of(number), bytes.as_slice())?;
-        journal.append(&mut disk, row_of(number, &id).as_slice())?;
-        println!(rt; "{number}")?;
-    }
-    Ok(())
+    let mut disk = Modelled::new(FolderCalls::new(rt, folder), Unknown);
+    let (mut journal, count) = begin(rt.alloc(), &mut disk)?;
+    add_rows(rt, &mut disk, &mut journal, count)
 }
