@@ -58,3 +58,8 @@ Agrees (flushed file went) seen = Unit {0}
 abbrev pub IsHonest : (ℕ → FileState) → List Event → Type 0
 IsHonest start [] = (f : ℕ) → IsSound (start f)
 IsHonest start (event ∷ earlier) = Agrees event (seen_of start earlier (file_of event)) × IsHonest start earlier
+
+-- each file is sound after these calls
+pub record IsSoundNow (start : ℕ → FileState) (history : List Event) : Type 0 where
+  pub reads : (f : ℕ) → IsOutcome (past_of start history (length history) f) (seen_of start history f)
+  pub fits : (f : ℕ) → length (seen_of start history f) < 18446744073709551616

@@ -4,3 +4,4 @@ pub mod View
 pub mod Image
 pub mod Events
 pub mod Note
+pub mod Modelled

@@ -1,5 +1,5 @@
 -- By hand, since such a struct may own memory: the body does nothing, and the borrow ends at a longer list.
-use Rattle.std.proofs.Common.{List, [], ◌∷◌, length, refl}
+use Rattle.std.proofs.Common.{List, [], ◌∷◌, refl}
 use Rattle.std.proofs.raw_atomic.Walks.{proved}
 use base.Logic.{id⊢}
 use base.Fml.{ftrue, flft}
