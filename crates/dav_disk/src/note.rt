@@ -1,4 +1,5 @@
 /// A device call and whether it went, as it is noted. The bytes that a read gave, or that a write was given, stand beside it.
+#[derive(Clone, Copy, Debug, PartialEq, Eq)]
 pub enum Note {
     Size {
         file: u32,
