@@ -1,6 +1,7 @@
 ghost use Rattle.std.specs.Prelude.{◌≡◌, ⊤, length, IfOk};
 
-use dav_real::FolderDisk;
+use dav_disk::Modelled;
+use dav_real::{FolderCalls, FolderDisk, Unknown};
 use dav_store::{Bodies, BodyId, Journal, StoreFault, head_payload};
 use dav_text::Memory;
 use std::alloc::Global;
@@ -69,7 +70,7 @@ fn row_of(number: u64, id: &BodyId) -> [u8; 48] {
 /// Reads each row that stands, with its body, and says how many there are.
 fn check_rows<R: Files + AllocGlobal>(
     alloc: Global,
-    disk: &mut FolderDisk<'_, R>,
+    disk: &mut FolderDisk<'_, R, Unknown>,
     journal: &mut Journal,
 ) -> Result<u64, Stop> {
     let mut bodies = Bodies::new(alloc);
@@ -90,7 +91,7 @@ fn check_rows<R: Files + AllocGlobal>(
 /// Opens the index, made where nothing stands, and reads all rows.
 fn begin<R: Files + AllocGlobal>(
     alloc: Global,
-    disk: &mut FolderDisk<'_, R>,
+    disk: &mut FolderDisk<'_, R, Unknown>,
 ) -> Result<(Journal, u64), Stop> {
     let head = head_payload(alloc, b"http://h/")?;
     let mut journal = Journal::start(alloc, disk, head.as_slice())?;
@@ -100,7 +101,7 @@ fn begin<R: Files + AllocGlobal>(
 
 /// Says how many rows stand, each with its body.
 pub fn read_all<R: Files + AllocGlobal + Print>(rt: &R, folder: &str) -> Result<(), Stop> {
-    let mut disk = FolderDisk::new(rt, folder);
+    let mut disk = Modelled::new(FolderCalls::new(rt, folder), Unknown);
     let (_, count) = begin(rt.alloc(), &mut disk)?;
     println!(rt; "{count}")?;
     Ok(())
@@ -109,7 +110,7 @@ pub fn read_all<R: Files + AllocGlobal + Print>(rt: &R, folder: &str) -> Result<
 /// Adds bodies and rows, and says the number of each row that is acknowledged.
 pub fn write_rows<R: Files + AllocGlobal + Print>(rt: &R, folder: &str) -> Result<(), Stop> {
     let alloc = rt.alloc();
-    let mut disk = FolderDisk::new(rt, folder);
+    let mut disk = Modelled::new(FolderCalls::new(rt, folder), Unknown);
     let (mut journal, count) = begin(alloc, &mut disk)?;
     let mut bodies = Bodies::new(alloc);
     for number in count..u64::MAX {
