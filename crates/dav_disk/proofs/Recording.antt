@@ -80,7 +80,7 @@ over_left old bytes at i le lt = grind (arith, places)
 over_right : (old bytes : List ℕ) (at i : ℕ) → at ≤ length old → at + length bytes ≤ i → i < length old → get_or (overwritten old at bytes) i 0 ≡ get_or old i 0
 over_right old bytes at i le lo hi = grind (arith, places)
 
-over_length : (old bytes : List ℕ) (at : ℕ) → at ≤ length old → length (overwritten old at bytes) ≡ max (length old) (at + length bytes)
+pub over_length : (old bytes : List ℕ) (at : ℕ) → at ≤ length old → length (overwritten old at bytes) ≡ max (length old) (at + length bytes)
 over_length old bytes at le = grind (arith, places)
 
 out_of_write : (b : Bool) (i at end : ℕ) (changes : List Change) → IsOutside i ((if b then Span at end else Tail at) ∷ changes) → ((i < at) ⊎ ((b ≡ true) × (end ≤ i))) × IsOutside i changes
@@ -88,7 +88,7 @@ out_of_write true i at end changes (inl lt, rest) = (inl lt, rest)
 out_of_write true i at end changes (inr le, rest) = (inr (refl, le), rest)
 out_of_write false i at end changes (lt, rest) = (inl lt, rest)
 
-outcome_of_write : (old : List ℕ) (doubt : Doubt) (at : ℕ) (bytes next : List ℕ) → IsOutcome doubt old → at ≤ length old → next ≡ overwritten old at bytes → IsOutcome (with_change (touched_by_write at (length bytes) (length old)) (at + length bytes) doubt) next
+pub outcome_of_write : (old : List ℕ) (doubt : Doubt) (at : ℕ) (bytes next : List ℕ) → IsOutcome doubt old → at ≤ length old → next ≡ overwritten old at bytes → IsOutcome (with_change (touched_by_write at (length bytes) (length old)) (at + length bytes) doubt) next
 outcome_of_write old doubt at bytes next outcome le is = subst (λ (l : List ℕ). IsOutcome (with_change (touched_by_write at (length bytes) (length old)) (at + length bytes) doubt) l) (sym is) (record {
   no_shorter = omega (arith, over_length old bytes at le, outcome.no_shorter);
   no_longer = omega (arith, over_length old bytes at le, outcome.no_longer);
@@ -103,21 +103,21 @@ outcome_of_write old doubt at bytes next outcome le is = subst (λ (l : List ℕ
       ];
 })
 
-outcome_stays : (old : List ℕ) (doubt : Doubt) (at n : ℕ) (next : List ℕ) → IsOutcome doubt old → next ≡ old → IsOutcome (with_change (touched_by_write at n (length old)) (at + n) doubt) next
+pub outcome_stays : (old : List ℕ) (doubt : Doubt) (at n : ℕ) (next : List ℕ) → IsOutcome doubt old → next ≡ old → IsOutcome (with_change (touched_by_write at n (length old)) (at + n) doubt) next
 outcome_stays old doubt at n next outcome is = subst (λ (l : List ℕ). IsOutcome (with_change (touched_by_write at n (length old)) (at + n) doubt) l) (sym is) (record {
   no_shorter = outcome.no_shorter;
   no_longer = omega (arith, outcome.no_longer);
   kept = λ i lt out. outcome.kept i lt (out_of_write (leb (at + n) (length old)) i at (at + n) doubt.changes out).1;
 })
 
-outcome_of_cut : (old : List ℕ) (doubt : Doubt) (len : ℕ) (next : List ℕ) → IsOutcome doubt old → next ≡ take len old → IsOutcome (after_cut len doubt) next
+pub outcome_of_cut : (old : List ℕ) (doubt : Doubt) (len : ℕ) (next : List ℕ) → IsOutcome doubt old → next ≡ take len old → IsOutcome (after_cut len doubt) next
 outcome_of_cut old doubt len next outcome is = subst (λ (l : List ℕ). IsOutcome (after_cut len doubt) l) (sym is) (record {
   no_shorter = omega (arith, length-take len old, outcome.no_shorter);
   no_longer = omega (arith, length-take len old, outcome.no_longer);
   kept = λ i lt out. get_or-take len old i 0 out.0 ∙ outcome.kept i (omega (arith, length-take len old)) out.1;
 })
 
-outcome_stays_cut : (old : List ℕ) (doubt : Doubt) (len : ℕ) (next : List ℕ) → IsOutcome doubt old → next ≡ old → IsOutcome (after_cut len doubt) next
+pub outcome_stays_cut : (old : List ℕ) (doubt : Doubt) (len : ℕ) (next : List ℕ) → IsOutcome doubt old → next ≡ old → IsOutcome (after_cut len doubt) next
 outcome_stays_cut old doubt len next outcome is = subst (λ (l : List ℕ). IsOutcome (after_cut len doubt) l) (sym is) (record {
   no_shorter = omega (arith, outcome.no_shorter);
   no_longer = outcome.no_longer;
@@ -125,13 +125,13 @@ outcome_stays_cut old doubt len next outcome is = subst (λ (l : List ℕ). IsOu
 })
 
 -- which file a call is on
-file_on : (file : ℕ) → (file == file) ≡ true
+pub file_on : (file : ℕ) → (file == file) ≡ true
 file_on file = grind (arith, nat_tests)
 
-file_is : (file f : ℕ) → (file == f) ≡ true → f ≡ file
+pub file_is : (file f : ℕ) → (file == f) ≡ true → f ≡ file
 file_is file f on = grind (arith, nat_tests)
 
-file_off : (file f : ℕ) → (f ≡ file → ⊥) → (file == f) ≡ false
+pub file_off : (file f : ℕ) → (f ≡ file → ⊥) → (file == f) ≡ false
 file_off file f out = elim (bool_cases (file == f)) [
   | inl on ↦ absurd (out (file_is file f on))
   | inr off ↦ off
@@ -183,7 +183,7 @@ fair_write calls file at bytes change end next stays fair le ends changed is = f
     here false over = outcome_of_write (state_of file calls).seen (state_of file calls).doubt at bytes next.items (fair.reads file) le over
 
 -- a write that ends within the greatest u64
-in_range : (at n size : ℕ) (doubt : Doubt) → at + n ≤ 18446744073709551615 → after_write at n size doubt ≡ with_change (touched_by_write at n size) (at + n) doubt
+pub in_range : (at n size : ℕ) (doubt : Doubt) → at + n ≤ 18446744073709551615 → after_write at n size doubt ≡ with_change (touched_by_write at n size) (at + n) doubt
 in_range at n size doubt le = let e : leb (at + n) 18446744073709551615 ≡ true = grind (arith, nat_tests) in ap (λ (b : Bool). if b then with_change (touched_by_write at n size) (at + n) doubt else doubt) e
 
 -- and one that does not

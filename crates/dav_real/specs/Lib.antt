@@ -1,2 +1,1 @@
-pub mod Blind
 pub mod Real

@@ -3,15 +3,17 @@
 
 #[cfg(test)]
 mod device_tests;
-mod folder_disk;
+mod folder_calls;
 mod reader_source;
 mod steady;
 mod tcp_wire;
 #[cfg(test)]
 mod tests;
+mod unknown;
 mod writer_sink;
 
-pub use folder_disk::FolderDisk;
+pub use folder_calls::{FolderCalls, FolderDisk};
 pub use reader_source::ReaderSource;
 pub use tcp_wire::TcpWire;
+pub use unknown::Unknown;
 pub use writer_sink::WriterSink;

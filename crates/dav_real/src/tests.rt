@@ -1,5 +1,5 @@
-use crate::FolderDisk;
-use dav_disk::{Disk, Failed};
+use crate::{FolderCalls, Unknown};
+use dav_disk::{Disk, Failed, Modelled};
 use std::{fs, io};
 
 /// The folder that the tests fill, in the one for what is built.
@@ -22,7 +22,7 @@ fn fill<D: Disk>(disk: &mut D) -> Result<(), Failed> {
 #[test]
 fn a_folder_keeps_files_by_their_numbers(rt: HostRuntime) {
     assert!(rt; make_anew(&rt).is_ok());
-    let mut disk = FolderDisk::new(&rt, FOLDER);
+    let mut disk = Modelled::new(FolderCalls::new(&rt, FOLDER), Unknown);
     assert!(rt; disk.size(2) == Ok(0));
     assert!(rt; fill(&mut disk).is_ok());
     assert!(rt; disk.size(2) == Ok(3));
@@ -39,7 +39,7 @@ fn a_folder_keeps_files_by_their_numbers(rt: HostRuntime) {
 
 #[test]
 fn a_folder_that_is_not_there_fails_and_is_counted(rt: HostRuntime) {
-    let mut disk = FolderDisk::new(&rt, "out/no_such_folder");
+    let mut disk = Modelled::new(FolderCalls::new(&rt, "out/no_such_folder"), Unknown);
     assert!(rt; disk.size(2) == Ok(0));
     assert!(rt; disk.write_at(2, 0, b"hello") == Err(Failed));
     assert!(rt; disk.sync(2) == Err(Failed));

@@ -1,7 +1,8 @@
 //! davsh: a shell for files on a WebDAV server.
 #![tactic(auto)]
 
-use dav_real::{FolderDisk, ReaderSource, TcpWire, WriterSink};
+use dav_disk::Modelled;
+use dav_real::{FolderCalls, ReaderSource, TcpWire, Unknown, WriterSink};
 use dav_run::run;
 use std::alloc::Global;
 use std::process::ExitCode;
@@ -30,7 +31,7 @@ fn main(rt: HostRuntime) -> ExitCode {
     let mut up_wire = TcpWire::new(&rt);
     // Where it is not there and cannot be made, the disk fails.
     let _ = fs::create_dir_all(&rt, CACHE);
-    let disk = FolderDisk::new(&rt, CACHE);
+    let disk = Modelled::new(FolderCalls::new(&rt, CACHE), Unknown);
     let (status, _disk, _ended) = run(
         rt.alloc(),
         words.as_slice(),
