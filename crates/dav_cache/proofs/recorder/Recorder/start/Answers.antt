@@ -21,6 +21,9 @@ returns-in-Ok-clause-any_moment g c table given all h_end =
     let h = subst g.D.Disk.honest c.begin.ensures.disk h_end in
     subst (λ (d : g.row.D.Denot). EachImage (g.D.Disk.past d) (g.D.Disk.moment c.args.disk) (g.D.Disk.moment d) (Recovers c.args.url.now table given)) (sym c.begin.ensures.disk) (c.open.ensures.any_moment h table given all)
 
+pub returns-in-Err-clause-any_moment : goal.returns-in-Err-clause-any_moment
+returns-in-Err-clause-any_moment g c table given all h = c.open.ensures.any_moment h table given all
+
 pub returns-in-Ok-clause-changes : goal.returns-in-Ok-clause-changes
 returns-in-Ok-clause-changes g c h_end =
     let h = subst g.D.Disk.honest c.begin.ensures.disk h_end in
