@@ -10,14 +10,15 @@ use Rattle.dav_cache.proofs.commit.release.Given as goal
 
 abbrev pub invariant-loop-file : goal.invariant-loop-file
 invariant-loop-file g l = record {
-  still : g.D.Disk.honest → (rows : List (List ℕ)) (holds : List BodyId) (given : ℕ → List ℕ) (end : ℕ) → Spares l.freed holds
+  still : g.D.Disk.honest l.disk → (rows : List (List ℕ)) (holds : List BodyId) (given : ℕ → List ℕ) (end : ℕ) → Spares l.freed holds
       → IsSafe rows holds given end (g.D.Disk.seen l.initial.disk) (g.D.Disk.past l.initial.disk (g.D.Disk.moment l.initial.disk))
       → IsSafe rows holds given end (g.D.Disk.seen l.disk) (g.D.Disk.past l.disk (g.D.Disk.moment l.disk))
       × EachImage (g.D.Disk.past l.disk) (g.D.Disk.moment l.initial.disk) (g.D.Disk.moment l.disk) (Stands rows holds given);
-  ready : g.D.Disk.honest → (end : ℕ) → IsReady end (g.D.Disk.seen l.initial.disk 0) (g.D.Disk.past l.initial.disk (g.D.Disk.moment l.initial.disk) 0)
+  ready : g.D.Disk.honest l.disk → (end : ℕ) → IsReady end (g.D.Disk.seen l.initial.disk 0) (g.D.Disk.past l.initial.disk (g.D.Disk.moment l.initial.disk) 0)
       → IsReady end (g.D.Disk.seen l.disk 0) (g.D.Disk.past l.disk (g.D.Disk.moment l.disk) 0);
-  touches : g.D.Disk.honest → Touches (Contains l.freed) (g.D.Disk.moment l.initial.disk) (g.D.Disk.moment l.disk) (g.D.Disk.past l.initial.disk) (g.D.Disk.past l.disk);
-  others : g.D.Disk.honest → RestStays (Contains l.freed) (g.D.Disk.seen l.initial.disk) (g.D.Disk.seen l.disk);
-  emptied : g.D.Disk.honest → AreEmptyTo l.file-index l.freed (g.D.Disk.seen l.disk) (g.D.Disk.past l.disk (g.D.Disk.moment l.disk));
+  touches : g.D.Disk.honest l.disk → Touches (Contains l.freed) (g.D.Disk.moment l.initial.disk) (g.D.Disk.moment l.disk) (g.D.Disk.past l.initial.disk) (g.D.Disk.past l.disk);
+  others : g.D.Disk.honest l.disk → RestStays (Contains l.freed) (g.D.Disk.seen l.initial.disk) (g.D.Disk.seen l.disk);
+  emptied : g.D.Disk.honest l.disk → AreEmptyTo l.file-index l.freed (g.D.Disk.seen l.disk) (g.D.Disk.past l.disk (g.D.Disk.moment l.disk));
+  keeps : g.D.Disk.honest l.disk → g.D.Disk.honest l.initial.disk;
   faults : g.D.Disk.faults l.initial.disk ≤ g.D.Disk.faults l.disk;
 }

@@ -11,9 +11,10 @@ abbrev pub invariant-loop-row : goal.invariant-loop-row
 invariant-loop-row g l = record {
   counted : l.row ≡ l.table.records + 1;
   within : IsWithin l.table;
-  read : g.D.Disk.honest → (url : List ℕ) → IsReading (head_of url ∷ []) l.fn.journal.end (g.D.Disk.seen l.initial.disk 0) (g.D.Disk.past l.initial.disk (g.D.Disk.moment l.initial.disk) 0)
+  read : g.D.Disk.honest l.disk → (url : List ℕ) → IsReading (head_of url ∷ []) l.fn.journal.end (g.D.Disk.seen l.initial.disk 0) (g.D.Disk.past l.initial.disk (g.D.Disk.moment l.initial.disk) 0)
       → (records : List Record) × IsRead url records l.table l.journal.end (g.D.Disk.seen l.disk 0) (g.D.Disk.past l.disk (g.D.Disk.moment l.disk) 0);
-  touches : g.D.Disk.honest → Touches (λ _. ⊥) (g.D.Disk.moment l.initial.disk) (g.D.Disk.moment l.disk) (g.D.Disk.past l.initial.disk) (g.D.Disk.past l.disk);
-  seen : g.D.Disk.honest → AllStay (g.D.Disk.seen l.initial.disk) (g.D.Disk.seen l.disk);
+  touches : g.D.Disk.honest l.disk → Touches (λ _. ⊥) (g.D.Disk.moment l.initial.disk) (g.D.Disk.moment l.disk) (g.D.Disk.past l.initial.disk) (g.D.Disk.past l.disk);
+  seen : g.D.Disk.honest l.disk → AllStay (g.D.Disk.seen l.initial.disk) (g.D.Disk.seen l.disk);
+  keeps : g.D.Disk.honest l.disk → g.D.Disk.honest l.initial.disk;
   faults : g.D.Disk.faults l.initial.disk ≤ g.D.Disk.faults l.disk;
 }

@@ -11,11 +11,13 @@ use Rattle.dav_cache.specs.Stands.{IsWritten}
 use Rattle.dav_cache.proofs.recorder.Recorder.enter.Goals as goal
 
 pub returns-in-Ok-clause-ready : goal.returns-in-Ok-clause-ready
-returns-in-Ok-clause-ready g c h =
+returns-in-Ok-clause-ready g c h_end =
+    let h = subst (λ (d : Recorder g.row.D.Denot). g.D.Disk.honest d.disk) c.push.ensures.rest h_end in
     subst (λ (d : Recorder g.row.D.Denot). IsReady d.journal.end (g.D.Disk.seen d.disk 0) (g.D.Disk.past d.disk (g.D.Disk.moment d.disk) 0)) (sym c.push.ensures.rest) (c.in-Ok.ensures.ready h)
 
 pub returns-in-Ok-clause-live : goal.returns-in-Ok-clause-live
-returns-in-Ok-clause-live g c h url opening start given legal planned is =
+returns-in-Ok-clause-live g c h_end url opening start given legal planned is =
+    let h = subst (λ (d : Recorder g.row.D.Denot). g.D.Disk.honest d.disk) c.push.ensures.rest h_end in
     let old = c.args.self.now in
     let t = table_after opening old.trace.steps.items in
     let after = replay (kept_table t) planned.r in
@@ -44,7 +46,9 @@ returns-in-Err-Under-clause-left g c h url opening start given legal planned is 
     (c.commit.ensures.any_moment h url (kept_table t) after planned.r given planned.due is.consistent) c.calls-in-Err-Under.result refl refl
 
 pub returns-in-Ok-clause-changes : goal.returns-in-Ok-clause-changes
-returns-in-Ok-clause-changes g c h = subst (λ (d : Recorder g.row.D.Denot). ChangesOnly g.D.Disk.moment g.D.Disk.seen g.D.Disk.past (IsWritten c.args.fresh c.args.freed.now) c.args.self.now.disk d.disk) (sym c.push.ensures.rest) (record { touches = c.commit.ensures.touches h; others = c.commit.ensures.others h })
+returns-in-Ok-clause-changes g c h_end =
+    let h = subst (λ (d : Recorder g.row.D.Denot). g.D.Disk.honest d.disk) c.push.ensures.rest h_end in
+    subst (λ (d : Recorder g.row.D.Denot). ChangesOnly g.D.Disk.moment g.D.Disk.seen g.D.Disk.past (IsWritten c.args.fresh c.args.freed.now) c.args.self.now.disk d.disk) (sym c.push.ensures.rest) (record { touches = c.commit.ensures.touches h; others = c.commit.ensures.others h })
 
 pub returns-in-Err-Before-clause-changes : goal.returns-in-Err-Before-clause-changes
 returns-in-Err-Before-clause-changes g c h = record { touches = c.commit.ensures.touches h; others = c.commit.ensures.others h }
@@ -56,7 +60,11 @@ pub returns-in-Err-Before-clause-early : goal.returns-in-Err-Before-clause-early
 returns-in-Err-Before-clause-early g c h = let early = rw c.in-Err-Before.field-0-is at c.in-Err-Before.ensures.early h in inl (early refl)
 
 pub returns-in-Ok-clause-stored : goal.returns-in-Ok-clause-stored
-returns-in-Ok-clause-stored g c h = subst (λ (d : Recorder g.row.D.Denot). IsStored c.args.fresh c.args.bytes.now c.args.freed.now (g.D.Disk.seen d.disk) (g.D.Disk.past d.disk (g.D.Disk.moment d.disk))) (sym c.push.ensures.rest) (c.in-Ok.ensures.stored h)
+returns-in-Ok-clause-stored g c h_end =
+    let h = subst (λ (d : Recorder g.row.D.Denot). g.D.Disk.honest d.disk) c.push.ensures.rest h_end in
+    subst (λ (d : Recorder g.row.D.Denot). IsStored c.args.fresh c.args.bytes.now c.args.freed.now (g.D.Disk.seen d.disk) (g.D.Disk.past d.disk (g.D.Disk.moment d.disk))) (sym c.push.ensures.rest) (c.in-Ok.ensures.stored h)
 
 pub returns-in-Ok-clause-emptied : goal.returns-in-Ok-clause-emptied
-returns-in-Ok-clause-emptied g c h = subst (λ (d : Recorder g.row.D.Denot). AreEmpty c.args.freed.now (g.D.Disk.seen d.disk) (g.D.Disk.past d.disk (g.D.Disk.moment d.disk))) (sym c.push.ensures.rest) (c.in-Ok.ensures.emptied h)
+returns-in-Ok-clause-emptied g c h_end =
+    let h = subst (λ (d : Recorder g.row.D.Denot). g.D.Disk.honest d.disk) c.push.ensures.rest h_end in
+    subst (λ (d : Recorder g.row.D.Denot). AreEmpty c.args.freed.now (g.D.Disk.seen d.disk) (g.D.Disk.past d.disk (g.D.Disk.moment d.disk))) (sym c.push.ensures.rest) (c.in-Ok.ensures.emptied h)

@@ -12,11 +12,13 @@ use Rattle.dav_cache.specs.Files.{ChangesOnly, AreEmpty}
 use Rattle.dav_cache.proofs.recorder.Recorder.enter_quiet.Goals as goal
 
 pub returns-in-Ok-clause-ready : goal.returns-in-Ok-clause-ready
-returns-in-Ok-clause-ready g c h ready =
+returns-in-Ok-clause-ready g c h_end ready =
+    let h = subst (λ (d : Recorder g.row.D.Denot). g.D.Disk.honest d.disk) c.push.ensures.rest h_end in
     subst (λ (d : Recorder g.row.D.Denot). IsReady d.journal.end (g.D.Disk.seen d.disk 0) (g.D.Disk.past d.disk (g.D.Disk.moment d.disk) 0)) (sym c.push.ensures.rest) (c.release.ensures.ready h c.args.self.now.journal.end ready)
 
 pub returns-in-Ok-clause-live : goal.returns-in-Ok-clause-live
-returns-in-Ok-clause-live g c h url opening start given legal quiet is =
+returns-in-Ok-clause-live g c h_end url opening start given legal quiet is =
+    let h = subst (λ (d : Recorder g.row.D.Denot). g.D.Disk.honest d.disk) c.push.ensures.rest h_end in
     let old = c.args.self.now in
     let t = table_after opening old.trace.steps.items in
     let table = kept_table t in
@@ -42,10 +44,14 @@ returns-in-Err-clause-left g c h url opening start given quiet is =
     (quiet_images k (g.D.Disk.past disk) (g.D.Disk.moment old.disk) (g.D.Disk.moment disk) (c.release.ensures.any_moment h (rows_of url k.records) (bodies_of table) given old.journal.end quiet.spared k.safe)) refl refl
 
 pub returns-in-Ok-clause-changes : goal.returns-in-Ok-clause-changes
-returns-in-Ok-clause-changes g c h = subst (λ (d : Recorder g.row.D.Denot). ChangesOnly g.D.Disk.moment g.D.Disk.seen g.D.Disk.past (Contains c.args.freed.now) c.args.self.now.disk d.disk) (sym c.push.ensures.rest) (record { touches = c.release.ensures.touches h; others = c.release.ensures.others h })
+returns-in-Ok-clause-changes g c h_end =
+    let h = subst (λ (d : Recorder g.row.D.Denot). g.D.Disk.honest d.disk) c.push.ensures.rest h_end in
+    subst (λ (d : Recorder g.row.D.Denot). ChangesOnly g.D.Disk.moment g.D.Disk.seen g.D.Disk.past (Contains c.args.freed.now) c.args.self.now.disk d.disk) (sym c.push.ensures.rest) (record { touches = c.release.ensures.touches h; others = c.release.ensures.others h })
 
 pub returns-in-Err-clause-changes : goal.returns-in-Err-clause-changes
 returns-in-Err-clause-changes g c h = record { touches = c.release.ensures.touches h; others = c.release.ensures.others h }
 
 pub returns-in-Ok-clause-emptied : goal.returns-in-Ok-clause-emptied
-returns-in-Ok-clause-emptied g c h = subst (λ (d : Recorder g.row.D.Denot). AreEmpty c.args.freed.now (g.D.Disk.seen d.disk) (g.D.Disk.past d.disk (g.D.Disk.moment d.disk))) (sym c.push.ensures.rest) (c.in-Ok.ensures.emptied h)
+returns-in-Ok-clause-emptied g c h_end =
+    let h = subst (λ (d : Recorder g.row.D.Denot). g.D.Disk.honest d.disk) c.push.ensures.rest h_end in
+    subst (λ (d : Recorder g.row.D.Denot). AreEmpty c.args.freed.now (g.D.Disk.seen d.disk) (g.D.Disk.past d.disk (g.D.Disk.moment d.disk))) (sym c.push.ensures.rest) (c.in-Ok.ensures.emptied h)
