@@ -88,11 +88,8 @@ module _ {D : Type 0} (honest : D → Type 0) (moment : D → ℕ) (seen : D →
   same_under : r.under ≡ old.recorder.under
   same_under = ap (λ (x : Recorder D). x.under) b.rest
 
-  pub roomy_keeps : honest r.disk → honest old.recorder.disk
-  roomy_keeps h = subst honest same_disk h
-
   pub can_record : honest r.disk → CanRecord honest moment seen past r
-  can_record h = records_reserved honest moment seen past old.recorder r b.rest (b.ready (roomy_keeps h))
+  can_record h = records_reserved honest moment seen past old.recorder r b.rest (b.ready (subst honest same_disk h))
 
   same_faults : faults r.disk ≡ faults old.recorder.disk
   same_faults = ap faults same_disk
@@ -123,9 +120,6 @@ module _ {D : Type 0} (honest : D → Type 0) (moment : D → ℕ) (seen : D →
   module _ (q : Recorder D) (k : Read honest moment seen past faults r q) where
     same_items : q.trace.steps.items ≡ old.recorder.trace.steps.items
     same_items = ap (λ (t : Trace). t.steps.items) k.trace.0 ∙ b.room
-
-    pub read_keeps : honest q.disk → honest old.recorder.disk
-    read_keeps h = roomy_keeps (k.keeps h)
 
     pub read_faults : faults old.recorder.disk ≤ faults q.disk
     read_faults = omega (arith, same_faults, k.more)

@@ -21,7 +21,7 @@ use Rattle.dav_deeds.specs.declared.deed.Trace.{Trace}
 use Rattle.dav_deeds.proofs.Sounds.{after_sound}
 use Rattle.dav_cache.specs.declared.recorder.Recorder.{Recorder}
 use Rattle.dav_desk.specs.Working.{IsWorking, HasBytes, HasSum}
-use Rattle.dav_desk.proofs.Carrying.{Base, Read, Stood, starved_asked, starved_readied, starved_faults, starved_works, starved_lives_on, roomy_keeps, can_record, missing_asked, missing_readied, read_keeps, read_faults, read_works, read_left, read_entry, read_named, lives, lives_read, entered_faults, failed_asked, failed_readied, failed_not_alive, went_asked, went_readied, went_works, went_lives_on}
+use Rattle.dav_desk.proofs.Carrying.{Base, Read, Stood, starved_asked, starved_readied, starved_faults, starved_works, starved_lives_on, can_record, missing_asked, missing_readied, read_faults, read_works, read_left, read_entry, read_named, lives, lives_read, entered_faults, failed_asked, failed_readied, failed_not_alive, went_asked, went_readied, went_works, went_lives_on}
 use Rattle.dav_desk.proofs.Rooming.{held_slot, one_slot}
 use Rattle.dav_desk.proofs.Entering.{row_fits, new_begins, freed_begin}
 use Rattle.dav_desk.proofs.Going.{answer_has, job_bytes, job_sum}
@@ -343,33 +343,3 @@ returns-clause-ends g c fated same =
     let told : e.told ≡ Some (Settled fated) = sym (ap (λ (s : Step). s.told) c.requires.plan.step) ∙ same in
     subst (λ (r : Result Answer DeskFault). IfErr r (λ fault. fault ≢ Memory))
     (sym (c.with_bytes.ensures ∙ ap (λ (r : Result Told DeskFault). with_bytes r c.in-Ok.bytes) (c.requires.plan.answer ∙ ap (λ (o : Option Told). answer_by e.mark o) told))) tt
-
-pub returns-in_err-reserve-clause-keeps : goal.returns-in_err-reserve-clause-keeps
-returns-in_err-reserve-clause-keeps g c h =
-    let b : Base g.D.Disk.honest g.D.Disk.moment g.D.Disk.seen g.D.Disk.past c.args.self.now c.args.ask.now c.args.planned c.args.row.now c.reserve.new.self =
-    record { alive = c.requires.alive; sound = c.requires.sound; plan = c.requires.plan; ready = c.requires.ready; held = c.requires.held; rest = c.reserve.ensures.rest; room = c.reserve.ensures.items; more = c.reserve.ensures.capacity } in
-    roomy_keeps g.D.Disk.honest g.D.Disk.moment g.D.Disk.seen g.D.Disk.past g.D.Disk.faults c.args.self.now c.args.ask.now c.args.planned c.args.row.now c.reserve.new.self b h
-
-pub returns-in-Err-clause-keeps : goal.returns-in-Err-clause-keeps
-returns-in-Err-clause-keeps g c h =
-    let b : Base g.D.Disk.honest g.D.Disk.moment g.D.Disk.seen g.D.Disk.past c.args.self.now c.args.ask.now c.args.planned c.args.row.now c.reserve.new.self =
-    record { alive = c.requires.alive; sound = c.requires.sound; plan = c.requires.plan; ready = c.requires.ready; held = c.requires.held; rest = c.reserve.ensures.rest; room = c.reserve.ensures.items; more = c.reserve.ensures.capacity } in
-    let k : Read g.D.Disk.honest g.D.Disk.moment g.D.Disk.seen g.D.Disk.past g.D.Disk.faults c.reserve.new.self c.told_bytes.new.recorder =
-    record { trace = c.told_bytes.ensures.trace; more = c.told_bytes.ensures.faults; keeps = c.told_bytes.ensures.keeps; ready = c.told_bytes.ensures.ready; live = c.told_bytes.ensures.live } in
-    read_keeps g.D.Disk.honest g.D.Disk.moment g.D.Disk.seen g.D.Disk.past g.D.Disk.faults c.args.self.now c.args.ask.now c.args.planned c.args.row.now c.reserve.new.self b c.told_bytes.new.recorder k h
-
-pub returns-in-Err-enter-clause-keeps : goal.returns-in-Err-enter-clause-keeps
-returns-in-Err-enter-clause-keeps g c h =
-    let b : Base g.D.Disk.honest g.D.Disk.moment g.D.Disk.seen g.D.Disk.past c.args.self.now c.args.ask.now c.args.planned c.args.row.now c.reserve.new.self =
-    record { alive = c.requires.alive; sound = c.requires.sound; plan = c.requires.plan; ready = c.requires.ready; held = c.requires.held; rest = c.reserve.ensures.rest; room = c.reserve.ensures.items; more = c.reserve.ensures.capacity } in
-    let k : Read g.D.Disk.honest g.D.Disk.moment g.D.Disk.seen g.D.Disk.past g.D.Disk.faults c.reserve.new.self c.told_bytes.new.recorder =
-    record { trace = c.told_bytes.ensures.trace; more = c.told_bytes.ensures.faults; keeps = c.told_bytes.ensures.keeps; ready = c.told_bytes.ensures.ready; live = c.told_bytes.ensures.live } in
-    read_keeps g.D.Disk.honest g.D.Disk.moment g.D.Disk.seen g.D.Disk.past g.D.Disk.faults c.args.self.now c.args.ask.now c.args.planned c.args.row.now c.reserve.new.self b c.told_bytes.new.recorder k (c.enter.ensures.keeps h)
-
-pub returns-clause-keeps : goal.returns-clause-keeps
-returns-clause-keeps g c h =
-    let b : Base g.D.Disk.honest g.D.Disk.moment g.D.Disk.seen g.D.Disk.past c.args.self.now c.args.ask.now c.args.planned c.args.row.now c.reserve.new.self =
-    record { alive = c.requires.alive; sound = c.requires.sound; plan = c.requires.plan; ready = c.requires.ready; held = c.requires.held; rest = c.reserve.ensures.rest; room = c.reserve.ensures.items; more = c.reserve.ensures.capacity } in
-    let k : Read g.D.Disk.honest g.D.Disk.moment g.D.Disk.seen g.D.Disk.past g.D.Disk.faults c.reserve.new.self c.told_bytes.new.recorder =
-    record { trace = c.told_bytes.ensures.trace; more = c.told_bytes.ensures.faults; keeps = c.told_bytes.ensures.keeps; ready = c.told_bytes.ensures.ready; live = c.told_bytes.ensures.live } in
-    read_keeps g.D.Disk.honest g.D.Disk.moment g.D.Disk.seen g.D.Disk.past g.D.Disk.faults c.args.self.now c.args.ask.now c.args.planned c.args.row.now c.reserve.new.self b c.told_bytes.new.recorder k (c.enter.ensures.keeps h)
