@@ -38,7 +38,7 @@ end_of honest id file before now (Crowded oldest) is = absurd is
 end_of honest id file before now (Limit which) is = absurd is
 end_of honest id file before now Memory is = inl refl
 
-module _ {D : Type 0} (honest : Type 0) (moment : D → ℕ) (seen : D → ℕ → List ℕ) (faults : D → ℕ) (who : Who) (now : ℕ) (ask : Ask) (old new : Desk D) where
+module _ {D : Type 0} (honest : D → Type 0) (moment : D → ℕ) (seen : D → ℕ → List ℕ) (faults : D → ℕ) (who : Who) (now : ℕ) (ask : Ask) (old new : Desk D) where
   -- the desk was dead
   pub asked_dead : (fault : DeskFault) → old.recorder.dead ≡ Some fault → new ≡ old → IsAsked honest moment seen faults who now ask old new (Err fault)
   asked_dead fault dead same = record {
@@ -81,10 +81,10 @@ module _ {D : Type 0} (honest : Type 0) (moment : D → ℕ) (seen : D → ℕ �
       }
 
   -- the bytes of the job are not to be had
-  pub asked_missing : (e : DeskFault) → old.recorder.dead ≡ None → IsMissing honest (seen old.recorder.disk) (seen new.recorder.disk) (faults old.recorder.disk) (faults new.recorder.disk) (told_of old.table now (deed_of old.table ask)) e
+  pub asked_missing : (e : DeskFault) → old.recorder.dead ≡ None → IsMissing (honest new.recorder.disk) (seen old.recorder.disk) (seen new.recorder.disk) (faults old.recorder.disk) (faults new.recorder.disk) (told_of old.table now (deed_of old.table ask)) e
       → (e ≡ Memory → (new.recorder.disk ≡ old.recorder.disk) × (new.recorder.dead ≡ old.recorder.dead)) → (e ≢ Memory → new.recorder.dead ≡ Some e)
       → new.recorder.under ≡ old.recorder.under → new.recorder.trace.steps.items ≡ old.recorder.trace.steps.items → new.table ≡ old.table → IsAsked honest moment seen faults who now ask old new (Err e)
-  asked_missing e alive missing starved stopped under items table = elim (end_of honest missing.flight.body (seen old.recorder.disk missing.flight.body.file) (faults old.recorder.disk) (faults new.recorder.disk) e missing.cause) [
+  asked_missing e alive missing starved stopped under items table = elim (end_of (honest new.recorder.disk) missing.flight.body (seen old.recorder.disk missing.flight.body.file) (faults old.recorder.disk) (faults new.recorder.disk) e missing.cause) [
     | inl want ↦ subst (λ (f : DeskFault). IsAsked honest moment seen faults who now ask old new (Err f)) (sym want) (asked_starved alive (starved want).0 (starved want).1 under items table)
     | inr end ↦ record {
       verdict = Stopped e;

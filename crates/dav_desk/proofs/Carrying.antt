@@ -43,22 +43,23 @@ use Rattle.dav_desk.proofs.Going.{CanRecord, records_reserved, readied_alive, re
 use Rattle.dav_desk.proofs.Telling.{took_is, taken_named}
 
 -- the desk from before, the ask and its plan, and the recorder once there is room for a step more
-pub record Base {D : Type 0} (honest : Type 0) (moment : D → ℕ) (seen : D → ℕ → List ℕ) (past : D → ℕ → ℕ → Doubt) (old : Desk D) (ask : Ask) (planned : Planned) (row : List ℕ) (r : Recorder D) : Type 0 where
+pub record Base {D : Type 0} (honest : D → Type 0) (moment : D → ℕ) (seen : D → ℕ → List ℕ) (past : D → ℕ → ℕ → Doubt) (old : Desk D) (ask : Ask) (planned : Planned) (row : List ℕ) (r : Recorder D) : Type 0 where
   pub alive : old.recorder.dead ≡ None
   pub sound : IsSound old.table
   pub plan : IsPlannedBy old.table planned.made.step.who planned.made.step.now (deed_of old.table ask) (effect_of old.table planned.made.step.now (deed_of old.table ask)) planned row
-  pub ready : honest → CanRecord honest moment seen past old.recorder
+  pub ready : honest old.recorder.disk → CanRecord honest moment seen past old.recorder
   pub held : IsHeldFor planned.made.step.told old
   pub rest : r ≡ record old.recorder { trace = r.trace }
   pub room : r.trace.steps.items ≡ old.recorder.trace.steps.items
   pub more : vec_capacity old.recorder.trace.steps ≤ vec_capacity r.trace.steps
 
 -- the recorder once the bytes of the job are read, or are not to be had
-pub record Read {D : Type 0} (honest : Type 0) (moment : D → ℕ) (seen : D → ℕ → List ℕ) (past : D → ℕ → ℕ → Doubt) (faults : D → ℕ) (r q : Recorder D) : Type 0 where
+pub record Read {D : Type 0} (honest : D → Type 0) (moment : D → ℕ) (seen : D → ℕ → List ℕ) (past : D → ℕ → ℕ → Doubt) (faults : D → ℕ) (r q : Recorder D) : Type 0 where
   pub trace : (q.trace ≡ r.trace) × (q.under ≡ r.under)
   pub more : faults r.disk ≤ faults q.disk
-  pub ready : honest → CanRecord honest moment seen past r → CanRecord honest moment seen past q
-  pub live : honest → (url : List ℕ) (opening : DeskTable) (start : ℕ) (given : ℕ → List ℕ) → IsLive moment seen past url opening start given r → IsLive moment seen past url opening start given q
+  pub keeps : honest q.disk → honest r.disk
+  pub ready : honest q.disk → CanRecord honest moment seen past r → CanRecord honest moment seen past q
+  pub live : honest q.disk → (url : List ℕ) (opening : DeskTable) (start : ℕ) (given : ℕ → List ℕ) → IsLive moment seen past url opening start given r → IsLive moment seen past url opening start given q
 
 -- the recorder once the step stands on the disk, and the table then
 pub record Stood {D : Type 0} (moment : D → ℕ) (faults : D → ℕ) (old : Desk D) (ask : Ask) (planned : Planned) (r q p : Recorder D) (t : DeskTable) : Type 0 where
@@ -67,7 +68,7 @@ pub record Stood {D : Type 0} (moment : D → ℕ) (faults : D → ℕ) (old : D
   pub ended : (p.trace.steps.items ≡ q.trace.steps.items ++ stamped planned.made.step (moment p.disk) ∷ []) × (p.under ≡ q.under) × (p.dead ≡ q.dead)
   pub applied : t ≡ after old.table planned.made.step.now (deed_of old.table ask)
 
-module _ {D : Type 0} (honest : Type 0) (moment : D → ℕ) (seen : D → ℕ → List ℕ) (past : D → ℕ → ℕ → Doubt) (faults : D → ℕ) (old : Desk D) (ask : Ask) (planned : Planned) (row : List ℕ) (r : Recorder D)
+module _ {D : Type 0} (honest : D → Type 0) (moment : D → ℕ) (seen : D → ℕ → List ℕ) (past : D → ℕ → ℕ → Doubt) (faults : D → ℕ) (old : Desk D) (ask : Ask) (planned : Planned) (row : List ℕ) (r : Recorder D)
     (b : Base honest moment seen past old ask planned row r) where
   abbrev pub who : Who
   who = planned.made.step.who
@@ -87,8 +88,8 @@ module _ {D : Type 0} (honest : Type 0) (moment : D → ℕ) (seen : D → ℕ �
   same_under : r.under ≡ old.recorder.under
   same_under = ap (λ (x : Recorder D). x.under) b.rest
 
-  can_record : honest → CanRecord honest moment seen past r
-  can_record h = records_reserved honest moment seen past old.recorder r b.rest (b.ready h)
+  pub can_record : honest r.disk → CanRecord honest moment seen past r
+  can_record h = records_reserved honest moment seen past old.recorder r b.rest (b.ready (subst honest same_disk h))
 
   same_faults : faults r.disk ≡ faults old.recorder.disk
   same_faults = ap faults same_disk
@@ -123,26 +124,26 @@ module _ {D : Type 0} (honest : Type 0) (moment : D → ℕ) (seen : D → ℕ �
     pub read_faults : faults old.recorder.disk ≤ faults q.disk
     read_faults = omega (arith, same_faults, k.more)
 
-    module _ (e : DeskFault) (missing : IsMissing honest (seen r.disk) (seen q.disk) (faults r.disk) (faults q.disk) planned.made.step.told e)
+    module _ (e : DeskFault) (missing : IsMissing (honest q.disk) (seen r.disk) (seen q.disk) (faults r.disk) (faults q.disk) planned.made.step.told e)
         (starved : e ≡ Memory → (q.disk ≡ r.disk) × (q.dead ≡ r.dead)) (stopped : e ≢ Memory → q.dead ≡ Some e) where
-      missing_old : IsMissing honest (seen old.recorder.disk) (seen q.disk) (faults old.recorder.disk) (faults q.disk) (told_of old.table now (deed_of old.table ask)) e
+      missing_old : IsMissing (honest q.disk) (seen old.recorder.disk) (seen q.disk) (faults old.recorder.disk) (faults q.disk) (told_of old.table now (deed_of old.table ask)) e
       missing_old =
-          subst (λ (d : D). IsMissing honest (seen d) (seen q.disk) (faults d) (faults q.disk) (told_of old.table now (deed_of old.table ask)) e) same_disk
-          (subst (λ (o : Option Told). IsMissing honest (seen r.disk) (seen q.disk) (faults r.disk) (faults q.disk) o e) told_is missing)
+          subst (λ (d : D). IsMissing (honest q.disk) (seen d) (seen q.disk) (faults d) (faults q.disk) (told_of old.table now (deed_of old.table ask)) e) same_disk
+          (subst (λ (o : Option Told). IsMissing (honest q.disk) (seen r.disk) (seen q.disk) (faults r.disk) (faults q.disk) o e) told_is missing)
 
       pub missing_asked : IsAsked honest moment seen faults who now ask old (with_recorder q) (Err e)
       missing_asked = asked_missing honest moment seen faults who now ask old (with_recorder q) e b.alive missing_old
           (λ want. ((starved want).0 ∙ same_disk, (starved want).1 ∙ same_dead ∙ sym b.alive)) stopped (k.trace.1 ∙ same_under) same_items refl
 
       pub missing_readied : IsReadied honest moment seen past (with_recorder q)
-      missing_readied = elim (end_of honest missing.flight.body (seen r.disk missing.flight.body.file) (faults r.disk) (faults q.disk) e missing.cause) [
-        | inl want ↦ readied_alive honest moment seen past (with_recorder q) ((starved want).1 ∙ same_dead) (λ h. k.ready h (can_record h))
+      missing_readied = elim (end_of (honest q.disk) missing.flight.body (seen r.disk missing.flight.body.file) (faults r.disk) (faults q.disk) e missing.cause) [
+        | inl want ↦ readied_alive honest moment seen past (with_recorder q) ((starved want).1 ∙ same_dead) (λ h. k.ready h (can_record (k.keeps h)))
             (room_like old q same_items (subst (λ (t : Trace). vec_capacity old.recorder.trace.steps ≤ vec_capacity t.steps) (sym k.trace.0) b.more)
             (subst (λ (o : Option Told). IsHeldFor o old) missing.is_told b.held))
         | inr end ↦ readied_dead honest moment seen past (with_recorder q) e (stopped end.1) end.0
       ]
 
-    module _ (h : honest) (url : List ℕ) (opening : DeskTable) (start : ℕ) (given : ℕ → List ℕ) (is : IsWorking moment seen past url opening start given old) where
+    module _ (h : honest q.disk) (url : List ℕ) (opening : DeskTable) (start : ℕ) (given : ℕ → List ℕ) (is : IsWorking moment seen past url opening start given old) where
       pub lives_read : IsLive moment seen past url opening start given q
       lives_read = k.live h url opening start given (lives url opening start given is)
 
@@ -198,7 +199,7 @@ module _ {D : Type 0} (honest : Type 0) (moment : D → ℕ) (seen : D → ℕ �
       went_asked bytes result is =
           asked_went honest moment seen faults who now ask old (record { alloc = old.alloc; recorder = p; table = t; spare = s }) planned row bytes result b.alive b.plan is m.applied grown (still_alive ∙ sym b.alive) (m.ended.1 ∙ k.trace.1 ∙ same_under)
 
-      pub went_readied : (honest → CanRecord honest moment seen past p) → HasSpare (after old.table now (deed_of old.table ask)) s
+      pub went_readied : (honest p.disk → CanRecord honest moment seen past p) → HasSpare (after old.table now (deed_of old.table ask)) s
           → length r.trace.steps.items + slots planned.made.step.told ≤ vec_capacity r.trace.steps → vec_capacity q.trace.steps ≤ vec_capacity p.trace.steps
           → IsReadied honest moment seen past (record { alloc = old.alloc; recorder = p; table = t; spare = s })
       went_readied can spare two more =

@@ -29,7 +29,7 @@ use Rattle.dav_desk.specs.Verdict.{with_bytes}
 use Rattle.dav_desk.specs.Working.{IsReadied, IsWorking, HasBytes, HasSum}
 use Rattle.dav_desk.proofs.Entering.{live_reserved}
 
-module _ {D : Type 0} (honest : Type 0) (moment : D → ℕ) (seen : D → ℕ → List ℕ) (past : D → ℕ → ℕ → Doubt) where
+module _ {D : Type 0} (honest : D → Type 0) (moment : D → ℕ) (seen : D → ℕ → List ℕ) (past : D → ℕ → ℕ → Doubt) where
   abbrev pub CanRecord : Recorder D → Type 0
   CanRecord r = IsReady (journal_end r.journal) (seen r.disk 0) (past r.disk (moment r.disk) 0)
 
@@ -37,7 +37,7 @@ module _ {D : Type 0} (honest : Type 0) (moment : D → ℕ) (seen : D → ℕ �
   records_reserved old r rest is = subst CanRecord (sym rest) is
 
   -- the desk lives on
-  pub readied_alive : (desk : Desk D) → desk.recorder.dead ≡ None → (honest → CanRecord desk.recorder) → HasRoom desk → IsReadied honest moment seen past desk
+  pub readied_alive : (desk : Desk D) → desk.recorder.dead ≡ None → (honest desk.recorder.disk → CanRecord desk.recorder) → HasRoom desk → IsReadied honest moment seen past desk
   readied_alive desk alive can room = record { index = λ h is. can h; end = subst IsEndIfAny (sym alive) tt; room = λ is. room }
 
   -- or has died

@@ -19,6 +19,8 @@ pub struct Tried<'a> {
     pub start: &'a Script,
     /// The files before it.
     pub files: &'a [File],
+    /// Whether a start over them ends well.
+    pub starts: bool,
     /// The closes of the runs before it that are still owed.
     pub owed: &'a [Close<'a>],
     /// What came of it, with no trial.
@@ -38,6 +40,22 @@ fn closes_with<'a>(
     Ok(closes)
 }
 
+/// Ok where a start behind a run has every close, and ends well if one before the run does.
+fn check_start(
+    alloc: Global,
+    tried: &Tried<'_>,
+    stages: &[Stage<'_>],
+    last: &Played,
+    closes: &[Close<'_>],
+) -> Result<(), Halt> {
+    ensure(
+        alloc,
+        !tried.starts || last.status <= 1,
+        "start: it does not end well",
+    )?;
+    check_kept(alloc, stages, last, closes)
+}
+
 /// Ok where a start over what a run left at its end has every close.
 fn check_left(
     alloc: Global,
@@ -48,8 +66,9 @@ fn check_left(
     let closes = closes_with(alloc, tried, played)?;
     let last = play(alloc, tried.start, files, Trial::Plain)?;
     let stop = played.disk.calls();
-    check_kept(
+    check_start(
         alloc,
+        tried,
         [Stage { played, stop }].as_slice(),
         &last,
         closes.as_slice(),
@@ -112,16 +131,15 @@ fn without_last_line(output: &[u8]) -> &[u8] {
     }
 }
 
-/// Whether the output is a beginning of the plain one's lines, and perhaps a line that tells how the run ended. Where the wire failed,
-/// all those lines are there; only a sink stops within one.
+/// Whether the output is a beginning of the plain one's lines, and the line that tells the device by which the run ended. Where the wire
+/// failed, all those lines are there; a sink stops anywhere, within a line too.
 fn is_output_of(tried: &Tried<'_>, played: &Played, device: Device) -> bool {
     let output = played.output.as_slice();
     let plain = tried.plain.output.as_slice();
     let front = without_last_line(output);
     match device {
-        Device::Source | Device::Disk => {
-            plain.starts_with(front) && (output.is_empty() || output.ends_with(b"\n"))
-        }
+        Device::Source => plain.starts_with(front) && output.ends_with(b"end: input\n"),
+        Device::Disk => plain.starts_with(front) && output.ends_with(b"end: disk\n"),
         Device::Wire => front == without_last_line(plain),
         Device::Sink => plain.starts_with(output) || plain.starts_with(front),
     }
@@ -238,7 +256,7 @@ fn try_image(
         return Ok(());
     };
     let last = start_after(alloc, tried, *stage, wish)?;
-    check_kept(alloc, stages, &last, closes)
+    check_start(alloc, tried, stages, &last, closes)
 }
 
 /// Starts over each of some images of what a stop left.

@@ -107,10 +107,12 @@ fn try_run(
     let count = progress.owed.len().saturating_add(script.closings.len());
     let words = words_of(script, plain, progress);
     let start = start_of(alloc, words, count.saturating_add(4))?;
+    let files = progress.files.as_slice();
     let tried = Tried {
         script,
         start: &start,
-        files: progress.files.as_slice(),
+        files,
+        starts: play(alloc, &start, files, Trial::Plain)?.status <= 1,
         owed: progress.owed.as_slice(),
         plain,
         left,

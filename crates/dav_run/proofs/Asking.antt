@@ -143,12 +143,12 @@ module _ {D : Type 0} (view : DiskView D) where
       by Starved cause = tt
 
   pub asks_so : (ask : Ask) (x y : Desk D) (result : Answered) → IsAsk ask → (asked : IsAsked view.honest view.moment view.seen view.faults Shell 0 ask x y result)
-      → (view.honest → (url : List ℕ) (opening : DeskTable) (start : ℕ) (given : ℕ → List ℕ) → AreGiven x.table given ask → Works view url opening start given x → y.recorder.dead ≡ None → Works view url opening start given y)
-      → (view.honest → (url : List ℕ) (opening : DeskTable) (start : ℕ) (given : ℕ → List ℕ) → AreGiven x.table given ask → Works view url opening start given x → y.recorder.dead ≢ None → Stops view url opening start given y)
-      → (view.honest → IfOk result (λ answer. (url : List ℕ) (opening : DeskTable) (start : ℕ) (given : ℕ → List ℕ) → Works view url opening start given x → HasBytes given answer))
-      → IfOk result HasSum → view.faults x.recorder.disk ≤ view.faults y.recorder.disk
+      → (view.honest y.recorder.disk → (url : List ℕ) (opening : DeskTable) (start : ℕ) (given : ℕ → List ℕ) → AreGiven x.table given ask → Works view url opening start given x → y.recorder.dead ≡ None → Works view url opening start given y)
+      → (view.honest y.recorder.disk → (url : List ℕ) (opening : DeskTable) (start : ℕ) (given : ℕ → List ℕ) → AreGiven x.table given ask → Works view url opening start given x → y.recorder.dead ≢ None → Stops view url opening start given y)
+      → (view.honest y.recorder.disk → IfOk result (λ answer. (url : List ℕ) (opening : DeskTable) (start : ℕ) (given : ℕ → List ℕ) → Works view url opening start given x → HasBytes given answer))
+      → IfOk result HasSum → (view.honest y.recorder.disk → view.honest x.recorder.disk) → view.faults x.recorder.disk ≤ view.faults y.recorder.disk
       → DoesDesk view x y (Asks x.table (asking Shell 0 ask)) (result, y.table)
-  asks_so ask x y result is_ask asked working stopped bytes sum no_fewer =
+  asks_so ask x y result is_ask asked working stopped bytes sum keeps no_fewer =
       let met : Met = record { verdict = asked.verdict; bytes = asked.bytes } in
       let pair : Answered → DeskTable → Answered × DeskTable = λ r t. (r, t) in
       let was : WasAsked view (event (asking Shell 0 ask) met) x y = record {
@@ -160,6 +160,7 @@ module _ {D : Type 0} (view : DiskView D) where
         stopped = stopped;
         bytes = λ honest url opening start given works. subst (HasBytesIf given) asked.answer (bytes_so view x result (bytes honest) url opening start given works);
         sums = subst HasSumIf asked.answer (sums_so result sum);
+        keeps = keeps;
         no_fewer = no_fewer;
       } in
       subst (λ (r : Answered). DoesDesk view x y (Asks x.table (asking Shell 0 ask)) (r, y.table)) (sym asked.answer)

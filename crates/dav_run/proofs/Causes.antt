@@ -59,7 +59,7 @@ use Rattle.dav_run.proofs.Keeping.{last_disk, last_cache, IsOver, whole_made, wh
 use Rattle.dav_run.proofs.OneAsk.{AskRun, asked_once}
 use Rattle.dav_run.proofs.OneRun.{base_unique, opened_with, not_opened}
 use Rattle.dav_run.proofs.Telling.{Halts}
-use Rattle.dav_run.proofs.Tracing.{AllAsks, AllStopped, dead_stays, went, stopped, starved as starves, Traces, asks_sound, asks_front, asks_behind}
+use Rattle.dav_run.proofs.Tracing.{AllAsks, AllStopped, dead_stays, honest_before, went, stopped, starved as starves, Traces, asks_sound, asks_front, asks_behind}
 
 -- one of the asks was stopped by the fault, from the first one on
 abbrev AnyStopped : DeskFault → List Asked → Type 0
@@ -84,7 +84,7 @@ stopped_same fault other (e ∷ es) all_stopped (inr later) = stopped_same fault
 -- the causes of a fault by which a desk died
 record Died {D : Type 0} (view : DiskView D) (x z : Desk D) (fault : DeskFault) : Type 0 where
   disk : fault ≡ faults.Disk → Rose (view.faults x.recorder.disk) (view.faults z.recorder.disk)
-  damage : fault ≢ faults.Disk → IsDamage view.honest (view.seen z.recorder.disk) (view.faults x.recorder.disk) (view.faults z.recorder.disk) fault
+  damage : fault ≢ faults.Disk → IsDamage (view.honest z.recorder.disk) (view.seen z.recorder.disk) (view.faults x.recorder.disk) (view.faults z.recorder.disk) fault
 
 -- the file reads the same later, where the disk is honest
 fetch_later : (honest : Type 0) (id : BodyId) (file now_file : List ℕ) (before now : ℕ) (fault : DeskFault) → (honest → now_file ≡ file) → IsFetchFault honest id file before now fault → IsFetchFault honest id now_file before now fault
@@ -116,7 +116,7 @@ module _ {D : Type 0} (view : DiskView D) where
     disk = λ is. then_rose (view.faults x.recorder.disk) (view.faults y.recorder.disk) (view.faults z.recorder.disk) less (one.disk is);
     damage = λ other.
         let d = one.damage other in
-        record { flight = d.flight; cause = fetch_wider view.honest d.flight.body (view.seen z.recorder.disk d.flight.body.file) (view.faults x.recorder.disk) (view.faults y.recorder.disk) (view.faults z.recorder.disk) fault less d.cause };
+        record { flight = d.flight; cause = fetch_wider (view.honest z.recorder.disk) d.flight.body (view.seen z.recorder.disk d.flight.body.file) (view.faults x.recorder.disk) (view.faults y.recorder.disk) (view.faults z.recorder.disk) fault less d.cause };
   }
 
   -- a desk that died of it has its cause
@@ -124,10 +124,10 @@ module _ {D : Type 0} (view : DiskView D) where
   died_of e x y fault one = elim one.cause [
     | inl failed ↦ record { disk = λ is. failed.1; damage = λ other. absurd (other failed.0) }
     | inr unread_ ↦ record {
-      disk = λ is. subst (IsFetchFault view.honest unread_.flight.body (view.seen x.recorder.disk unread_.flight.body.file) (view.faults x.recorder.disk) (view.faults y.recorder.disk)) is unread_.cause;
+      disk = λ is. subst (IsFetchFault (view.honest y.recorder.disk) unread_.flight.body (view.seen x.recorder.disk unread_.flight.body.file) (view.faults x.recorder.disk) (view.faults y.recorder.disk)) is unread_.cause;
       damage = λ other. record {
         flight = unread_.flight;
-        cause = fetch_later view.honest unread_.flight.body (view.seen x.recorder.disk unread_.flight.body.file) (view.seen y.recorder.disk unread_.flight.body.file) (view.faults x.recorder.disk) (view.faults y.recorder.disk) fault
+        cause = fetch_later (view.honest y.recorder.disk) unread_.flight.body (view.seen x.recorder.disk unread_.flight.body.file) (view.seen y.recorder.disk unread_.flight.body.file) (view.faults x.recorder.disk) (view.faults y.recorder.disk) fault
             (λ h. unread_.files h unread_.flight.body.file) unread_.cause;
       };
     }
@@ -535,18 +535,25 @@ module _ {D : Type 0} (view : DiskView D) (words : List (List ℕ)) (bytes : Lis
       subst (λ (d : D). Rose (view.faults disk_old) (view.faults d)) (sym ran.disk)
       (then_rose (view.faults disk_old) (view.faults ran.first.recorder.disk) (view.faults ran.last.recorder.disk) ran.start.no_fewer (one.disk refl))
 
-  started_cache : (fault : DeskFault) → end.status ≡ status.Cache fault → IsDamage view.honest (view.seen disk_new) (view.faults disk_old) (view.faults disk_new) fault
+  started_cache : (fault : DeskFault) → end.status ≡ status.Cache fault → IsDamage (view.honest disk_new) (view.seen disk_new) (view.faults disk_old) (view.faults disk_new) fault
   started_cache fault is =
       let cause = (whole_outcome view words bytes failed o p u v disk_old disk_new steps under end ran).cause_cache fault is in
       let d = (started_died fault cause.0).damage cause.1.0 in
-      subst (λ (x : D). IsDamage view.honest (view.seen x) (view.faults disk_old) (view.faults x) fault) (sym ran.disk)
+      subst (λ (x : D). IsDamage (view.honest x) (view.seen x) (view.faults disk_old) (view.faults x) fault) (sym ran.disk)
       (record {
         flight = d.flight;
-        cause = fetch_wider view.honest d.flight.body (view.seen ran.last.recorder.disk d.flight.body.file) (view.faults disk_old) (view.faults ran.first.recorder.disk) (view.faults ran.last.recorder.disk) fault ran.start.no_fewer d.cause;
+        cause = fetch_wider (view.honest ran.last.recorder.disk) d.flight.body (view.seen ran.last.recorder.disk d.flight.body.file) (view.faults disk_old) (view.faults ran.first.recorder.disk) (view.faults ran.last.recorder.disk) fault ran.start.no_fewer d.cause;
       })
 
-  started_index : view.honest → HasIndex words (view.seen disk_old 0)
-  started_index honest = λ base named. (ran.first.table.index, subst (λ (b : BaseParts). (length (view.seen disk_old 0) < 1099511627776) × IsIndexOf b.text ran.first.table.index (view.seen disk_old 0)) (base_unique words ran.base base ran.named named) (ran.start.opened honest))
+  started_index : view.honest disk_new → HasIndex words (view.seen disk_old 0)
+  started_index honest =
+      let made = whole_made view words bytes failed o p u v disk_old disk_new steps under end ran in
+      let grew = whole_grew view words bytes failed o p u v disk_old disk_new steps under end ran in
+      let honest_first = honest_before view made.desk ran.first ran.last grew.desk (subst view.honest ran.disk honest) in
+      λ base named. (
+        ran.first.table.index,
+        subst (λ (b : BaseParts). (length (view.seen disk_old 0) < 1099511627776) × IsIndexOf b.text ran.first.table.index (view.seen disk_old 0)) (base_unique words ran.base base ran.named named) (ran.start.opened honest_first),
+      )
 
 -- a run without a desk
 module _ {D : Type 0} (view : DiskView D) (words : List (List ℕ)) (o p u v : DeviceLog) (disk_old disk_new : D) (steps : List Step) (under : Option Step) (end : Ending)
@@ -555,14 +562,14 @@ module _ {D : Type 0} (view : DiskView D) (words : List (List ℕ)) (o p u v : D
   record StartFailed (fault : DeskFault) : Type 0 where
     base : BaseParts
     named : IsBase words base
-    cause : IsStartFault view.honest base.text (view.seen disk_old 0) (view.faults disk_old) (view.faults disk_new) fault
+    cause : IsStartFault (view.honest disk_new) base.text (view.seen disk_old 0) (view.faults disk_old) (view.faults disk_new) fault
 
   start_failed : (opened : Opened) (fault : DeskFault) → Unstarted view words disk_old disk_new opened → opened ≡ Err fault → fault ≢ faults.Memory → StartFailed fault
   start_failed opened fault (uncalled same) is other = absurd (other (let x_ : not_opened faults.Memory ≡ not_opened fault = is in cc))
   start_failed opened fault (start_refused base one named start) is other =
       let x_ : not_opened one ≡ not_opened fault = is in
       let same : one ≡ fault = cc in
-      record { base = base; named = named; cause = subst (IsStartFault view.honest base.text (view.seen disk_old 0) (view.faults disk_old) (view.faults disk_new)) same start.cause }
+      record { base = base; named = named; cause = subst (IsStartFault (view.honest disk_new) base.text (view.seen disk_old 0) (view.faults disk_old) (view.faults disk_new)) same start.cause }
 
   none_opened : (opened : Opened) (table : DeskTable) → Unstarted view words disk_old disk_new opened → opened ≡ Ok table → ⊥
   none_opened opened table (uncalled same) is = let x_ : not_opened faults.Memory ≡ opened_with table = is in cc
@@ -618,13 +625,13 @@ module _ {D : Type 0} (view : DiskView D) (words : List (List ℕ)) (s0 s1 o p u
     | inr quiet ↦ quiet_disk view words o p u v disk_old disk_new steps under end quiet.1 is
   ]
 
-  pub cache_caused : (fault : DeskFault) → end.status ≡ status.Cache fault → IsCacheCause view.honest words (view.seen disk_old) (view.seen disk_new) (view.faults disk_old) (view.faults disk_new) fault
+  pub cache_caused : (fault : DeskFault) → end.status ≡ status.Cache fault → IsCacheCause (view.honest disk_new) words (view.seen disk_old) (view.seen disk_new) (view.faults disk_old) (view.faults disk_new) fault
   cache_caused fault is = elim ran.does [
     | inl started_ ↦ inr (started_cache view words (given ran.heard) (any_failed is_failure ran.heard) o p u v disk_old disk_new steps under end started_ fault is)
     | inr quiet ↦ let failed_ = quiet_cache view words o p u v disk_old disk_new steps under end quiet.1 fault is in inl (failed_.base, failed_.named, failed_.cause)
   ]
 
-  pub has_index : view.honest → IsGoing end.status → HasIndex words (view.seen disk_old 0)
+  pub has_index : view.honest disk_new → IsGoing end.status → HasIndex words (view.seen disk_old 0)
   has_index honest going = elim ran.does [
     | inl started_ ↦ started_index view words (given ran.heard) (any_failed is_failure ran.heard) o p u v disk_old disk_new steps under end started_ honest
     | inr quiet ↦ absurd (going_over end.status (whole_quiet view words o p u v disk_old disk_new steps under end quiet.1).over going)

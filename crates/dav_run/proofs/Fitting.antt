@@ -15,7 +15,7 @@ use Rattle.dav_run.specs.declared.cause.Cause.TheVariants.{Crowded, Limit, Memor
 use Rattle.dav_run.specs.declared.shell.Shell.{Shell}
 
 -- the shell has this current path, and this desk
-pub fit_with : {D : Type 0} (honest : Type 0) (moment : D → ℕ) (seen : D → ℕ → List ℕ) (past : D → ℕ → ℕ → Doubt) (shell : Shell D) (current : PathParts) (desk : Desk D)
+pub fit_with : {D : Type 0} (honest : D → Type 0) (moment : D → ℕ) (seen : D → ℕ → List ℕ) (past : D → ℕ → ℕ → Doubt) (shell : Shell D) (current : PathParts) (desk : Desk D)
     → shell.current ≡ current → shell.desk ≡ desk → IsPath current → IsReadied honest moment seen past desk → IsResting desk.table → IsFit honest moment seen past shell
 fit_with {D} honest moment seen past shell current desk here same path readied resting = record {
   path = subst IsPath (sym here) path;

@@ -49,7 +49,7 @@ use Rattle.dav_run.proofs.Bodies.{given_with, with_before, with_given, after_nex
 use Rattle.dav_run.proofs.Closing.{bytes_are}
 use Rattle.dav_run.proofs.Keeping.{whole_made, whole_outcome, whole_grew, whole_rests, whole_traces, whole_goes}
 use Rattle.dav_run.proofs.OneRun.{base_unique}
-use Rattle.dav_run.proofs.Tracing.{AllStopped, dead_stays, Traces, traces_still, stopped_at}
+use Rattle.dav_run.proofs.Tracing.{AllStopped, dead_stays, honest_before, Traces, traces_still, stopped_at}
 
 -- The bytes of two functions are the same for each file below the next one of a table.
 abbrev pub Agree : (ℕ → List ℕ) → (ℕ → List ℕ) → DeskTable → Type 0
@@ -159,15 +159,18 @@ module _ {D : Type 0} (view : DiskView D) (url : List ℕ) (opening : DeskTable)
     pub ends_so : Works view url opening start bodies z ⊎ Stops view url opening start bodies z
     pub told : AllTold bodies t es
 
-  through_next : view.honest → (bodies : ℕ → List ℕ) (e : Asked) (es : List Asked) (x z : Desk D) (were : WereAsked view (e ∷ es) x z) → AllGiven bodies x.table (e ∷ es) → Works view url opening start bodies x
+  through_next : (bodies : ℕ → List ℕ) (e : Asked) (es : List Asked) (x z : Desk D) → view.honest z.recorder.disk → (were : WereAsked view (e ∷ es) x z) → AllGiven bodies x.table (e ∷ es) → Works view url opening start bodies x
       → (AllGiven bodies were.0.table es → Works view url opening start bodies were.0 → Through bodies were.0.table es z) → Through bodies x.table (e ∷ es) z
-  through_next honest bodies e es x z were all_given works rest = by e.answer.verdict refl were.1.cause
+  through_next bodies e es x z honest were all_given works rest = by e.answer.verdict refl were.1.cause
     where
       mid : Desk D
       mid = were.0
 
+      honest_mid : view.honest mid.recorder.disk
+      honest_mid = honest_before view es mid z were.2 honest
+
       answered : HasBytesIf bodies (answer_met x.table e.asked e.answer)
-      answered = were.1.bytes honest url opening start bodies works
+      answered = were.1.bytes honest_mid url opening start bodies works
 
       met : (v : Verdict) → e.answer.verdict ≡ v → mid.table ≡ table_by v x.table e.asked.now e.asked.ask
       met v is = were.1.table ∙ ap (λ (w : Verdict). table_by w x.table e.asked.now e.asked.ask) is
@@ -181,26 +184,26 @@ module _ {D : Type 0} (view : DiskView D) (url : List ℕ) (opening : DeskTable)
       by : (v : Verdict) → e.answer.verdict ≡ v → HasCause view.honest view.moment view.seen view.faults e.asked.who e.asked.now e.asked.ask v x mid → Through bodies x.table (e ∷ es) z
       by Went is cause =
           let all_of_it = given_by Went is in
-          on (rest (subst (λ (t : DeskTable). AllGiven bodies t es) (sym (met Went is)) all_of_it.1) (were.1.working honest url opening start bodies all_of_it.0 works cause.0.dead))
+          on (rest (subst (λ (t : DeskTable). AllGiven bodies t es) (sym (met Went is)) all_of_it.1) (were.1.working honest_mid url opening start bodies all_of_it.0 works cause.0.dead))
       by (Stopped fault) is (inl was) = let x_ : None ≡ Some fault = sym works.alive ∙ was.dead in absurd (cc)
       by (Stopped fault) is (inr died) =
           let stays = dead_stays view es mid z fault died.dead were.2 in
           record {
             ends_so = inr (subst (Stops view url opening start bodies) (sym stays.0)
-                (were.1.stopped honest url opening start bodies (given_by (Stopped fault) is) works (λ alive. let x_ : None ≡ Some fault = sym alive ∙ died.dead in cc)));
+                (were.1.stopped honest_mid url opening start bodies (given_by (Stopped fault) is) works (λ alive. let x_ : None ≡ Some fault = sym alive ∙ died.dead in cc)));
             told = (answered, told_stopped bodies es (table_met x.table e.asked e.answer) fault stays.1);
           }
       by Starved is cause =
           let other : ℕ → List ℕ = given_with x.table bodies e.asked.ask in
           let agree : Agree bodies other x.table = λ file early. sym (with_before x.table bodies e.asked.ask file early) in
-          let now = were.1.working honest url opening start other (with_given x.table bodies e.asked.ask) (works_again bodies other x agree works) cause.lives.dead in
+          let now = were.1.working honest_mid url opening start other (with_given x.table bodies e.asked.ask) (works_again bodies other x agree works) cause.lives.dead in
           let back : Agree other bodies mid.table = subst (Agree other bodies) (sym (met Starved is)) (λ file early. with_before x.table bodies e.asked.ask file early) in
           on (rest (subst (λ (t : DeskTable). AllGiven bodies t es) (sym (met Starved is)) (given_by Starved is)) (works_again other bodies mid back now))
 
-  pub through : view.honest → (bodies : ℕ → List ℕ) (es : List Asked) (x z : Desk D) → WereAsked view es x z → AllGiven bodies x.table es → Works view url opening start bodies x → Through bodies x.table es z
-  through honest bodies [] x z same all_given works = record { ends_so = inl (subst (Works view url opening start bodies) (sym same) works); told = tt }
-  through honest bodies (e ∷ es) x z were all_given works =
-      through_next honest bodies e es x z were all_given works (λ given_later works_later. through honest bodies es were.0 z were.2 given_later works_later)
+  pub through : (bodies : ℕ → List ℕ) (es : List Asked) (x z : Desk D) → view.honest z.recorder.disk → WereAsked view es x z → AllGiven bodies x.table es → Works view url opening start bodies x → Through bodies x.table es z
+  through bodies [] x z honest same all_given works = record { ends_so = inl (subst (Works view url opening start bodies) (sym same) works); told = tt }
+  through bodies (e ∷ es) x z honest were all_given works =
+      through_next bodies e es x z honest were all_given works (λ given_later works_later. through bodies es were.0 z honest were.2 given_later works_later)
 
   -- what it leaves on the disk, whether it works or was stopped
   pub record Leaves (bodies : ℕ → List ℕ) (z : Desk D) : Type 0 where
@@ -268,7 +271,7 @@ as_reopened url table g image (inr recorded) =
 -- a run over a desk that started
 module _ {D : Type 0} (view : DiskView D) (words : List (List ℕ)) (bytes : List ℕ) (failed : Bool) (o p u v : DeviceLog) (disk_old disk_new : D) (steps : List Step) (under : Option Step) (end : Ending)
     (ran : Started view words bytes failed o p u v disk_old disk_new steps under end) where
-  pub started_headline : (s0 s1 : DeviceLog) (heard : List Happened) → Grew s0 s1 heard → bytes ≡ given heard → view.honest → (base : BaseParts) → ran.base ≡ base → (table : Table) (g : ℕ → List ℕ)
+  pub started_headline : (s0 s1 : DeviceLog) (heard : List Happened) → Grew s0 s1 heard → bytes ≡ given heard → view.honest disk_new → (base : BaseParts) → ran.base ≡ base → (table : Table) (g : ℕ → List ℕ)
       → AllRecover base.text table g (view.past disk_old (view.moment disk_old)) → Headline s0 s1 u v (view.past disk_new) (view.moment disk_old) (view.moment disk_new) base table g steps under
   started_headline s0 s1 heard gave bytes_are_ honest base base_is table g recover =
       let out = whole_outcome view words bytes failed o p u v disk_old disk_new steps under end ran in
@@ -278,13 +281,15 @@ module _ {D : Type 0} (view : DiskView D) (words : List (List ℕ)) (bytes : Lis
       let rests = whole_rests view words bytes failed o p u v disk_old disk_new steps under end ran in
       let first : DeskTable = ran.first.table in
       let start : ℕ = view.moment disk_old in
+      let honest_last : view.honest ran.last.recorder.disk = subst view.honest ran.disk honest in
+      let honest_first = honest_before view made.desk ran.first ran.last grew.desk honest_last in
       let begun : (first ≡ started table) × Works view base.text (started table) start g ran.first =
       subst (λ (b : BaseParts). (first ≡ started table) × Works view b.text (started table) start g ran.first) base_is
-      (ran.start.works honest table g (subst (λ (b : BaseParts). AllRecover b.text table g (view.past disk_old start)) (sym base_is) recover)) in
+      (ran.start.works honest_first table g (subst (λ (b : BaseParts). AllRecover b.text table g (view.past disk_old start)) (sym base_is) recover)) in
       let sound : IsSound (started table) = subst IsSound begun.0 rests.sound in
       let has = has_bodies g made.desk first in
       let works : Works view base.text (started table) start has.bodies ran.first = works_again view base.text (started table) start sound g has.bodies ran.first (λ file early. sym (has.before file early)) begun.1 in
-      let end_of_it = through view base.text (started table) start sound honest has.bodies made.desk ran.first ran.last grew.desk has.given_all works in
+      let end_of_it = through view base.text (started table) start sound has.bodies made.desk ran.first ran.last honest_last grew.desk has.given_all works in
       let left = leaves view base.text (started table) start sound has.bodies ran.last end_of_it.ends_so in
       let legal : Legal (started table) (with_under steps under) =
       subst (λ (l : List Step). Legal (started table) (with_under l under)) (sym ran.steps_are) (subst (λ (x : Option Step). Legal (started table) (with_under ran.last.recorder.trace.steps.items x)) (sym ran.under_is) left.legal) in
@@ -326,7 +331,7 @@ module _ {D : Type 0} (view : DiskView D) (words : List (List ℕ)) (o p u v : D
       subst (λ (d : D). EachImage (view.past d) (view.moment disk_old) (view.moment d) (Recovers url table g)) (sym same)
       (λ k image lo hi left. let at : k ≡ view.moment disk_old = omega (arith, lo, hi) in recover image (subst (λ (n : ℕ). IsImage (view.past disk_old n) image) at left))
 
-  images : view.honest → (base : BaseParts) → IsBase words base → (table : Table) (g : ℕ → List ℕ) → AllRecover base.text table g (view.past disk_old (view.moment disk_old)) → (opened : Opened) → Unstarted view words disk_old disk_new opened
+  images : view.honest disk_new → (base : BaseParts) → IsBase words base → (table : Table) (g : ℕ → List ℕ) → AllRecover base.text table g (view.past disk_old (view.moment disk_old)) → (opened : Opened) → Unstarted view words disk_old disk_new opened
       → EachImage (view.past disk_new) (view.moment disk_old) (view.moment disk_new) (Recovers base.text table g)
   images honest base named table g recover opened (uncalled same) = uncalled_images base.text table g same recover
   images honest base named table g recover opened (refused other fault other_named start) =
@@ -334,7 +339,7 @@ module _ {D : Type 0} (view : DiskView D) (words : List (List ℕ)) (o p u v : D
       subst (λ (b : BaseParts). EachImage (view.past disk_new) (view.moment disk_old) (view.moment disk_new) (Recovers b.text table g)) is
       (start.recover honest table g (subst (λ (b : BaseParts). AllRecover b.text table g (view.past disk_old (view.moment disk_old))) (sym is) recover))
 
-  pub quiet_headline : (s0 s1 : DeviceLog) (heard : List Happened) → Grew s0 s1 heard → heard ≡ [] → view.honest → (base : BaseParts) → IsBase words base → (table : Table) (g : ℕ → List ℕ)
+  pub quiet_headline : (s0 s1 : DeviceLog) (heard : List Happened) → Grew s0 s1 heard → heard ≡ [] → view.honest disk_new → (base : BaseParts) → IsBase words base → (table : Table) (g : ℕ → List ℕ)
       → AllRecover base.text table g (view.past disk_old (view.moment disk_old)) → Headline s0 s1 u v (view.past disk_new) (view.moment disk_old) (view.moment disk_new) base table g steps under
   quiet_headline s0 s1 heard gave none honest base named table g recover =
       let survive = quiet_survives (view.past disk_new) (view.moment disk_old) (view.moment disk_new) base.text table g (images honest base named table g recover ran.opened ran.start) in
@@ -356,7 +361,7 @@ module _ {D : Type 0} (view : DiskView D) (words : List (List ℕ)) (o p u v : D
 
 module _ {D : Type 0} (view : DiskView D) (words : List (List ℕ)) (s0 s1 o p u v : DeviceLog) (disk_old disk_new : D) (steps : List Step) (under : Option Step) (end : Ending)
     (ran : Ran view words s0 s1 o p u v disk_old disk_new steps under end) where
-  pub headline : view.honest → (base : BaseParts) → IsBase words base → (table : Table) (g : ℕ → List ℕ) → AllRecover base.text table g (view.past disk_old (view.moment disk_old))
+  pub headline : view.honest disk_new → (base : BaseParts) → IsBase words base → (table : Table) (g : ℕ → List ℕ) → AllRecover base.text table g (view.past disk_old (view.moment disk_old))
       → Headline s0 s1 u v (view.past disk_new) (view.moment disk_old) (view.moment disk_new) base table g steps under
   headline honest base named table g recover = elim ran.does [
     | inl started_ ↦

@@ -79,6 +79,11 @@ dead_stays {D} view (e ∷ es) x z fault dead were = by (λ dead_now. dead_stays
     by later (Stopped other) is (inr died) = alive died.alive
     by later Starved is cause = alive cause.lives.alive
 
+-- a disk that is honest behind the asks was so before them
+pub honest_before : {D : Type 0} (view : DiskView D) (es : List Asked) (x z : Desk D) → WereAsked view es x z → view.honest z.recorder.disk → view.honest x.recorder.disk
+honest_before {D} view [] x z same honest = subst (λ (d : Desk D). view.honest d.recorder.disk) same honest
+honest_before {D} view (e ∷ es) x z were honest = were.1.keeps (honest_before view es were.0 z were.2 honest)
+
 -- what the asks of a desk made of its trace
 pub record HasTraced {D : Type 0} (es : List Asked) (x z : Desk D) : Type 0 where
   pub steps : List Step

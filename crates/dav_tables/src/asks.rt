@@ -15,7 +15,7 @@ use dav_text::{Blob, Path, Seen, Tag};
 use std::alloc::{AllocError, Global};
 
 /// The URL of the desks.
-const URL: &str = "http://h/";
+pub(crate) const URL: &str = "http://h/";
 
 /// The path of a text.
 fn path_at(alloc: Global, text: &str, fault: RowFault) -> Result<Path, RowFault>
@@ -120,7 +120,7 @@ fn ask_of(alloc: Global, word: &str, text: &str, fault: RowFault) -> Result<Ask,
 }
 
 /// What became of a job, as text.
-fn fated(alloc: Global, fated: Fated) -> Result<String, AllocError> {
+pub(crate) fn fated(alloc: Global, fated: Fated) -> Result<String, AllocError> {
     match fated {
         Fated::Clean => String::from_str(alloc, "clean"),
         Fated::Superseded => String::from_str(alloc, "superseded"),
@@ -170,7 +170,7 @@ fn asked<D: Disk>(
 }
 
 /// Makes the ask of a line, `NOW WORD ..`, and appends what is said.
-fn ask_line<D: Disk>(
+pub(crate) fn ask_line<D: Disk>(
     alloc: Global,
     desk: &mut Desk<D>,
     line: &str,
@@ -206,7 +206,7 @@ fn ask_lines<D: Disk>(
 }
 
 /// Appends what is left of a desk: what is queued and lost, and how many steps there are, and of them refused.
-fn tell_left<D: Disk>(desk: &Desk<D>, out: &mut String) -> Result<(), AllocError> {
+pub(crate) fn tell_left<D: Disk>(desk: &Desk<D>, out: &mut String) -> Result<(), AllocError> {
     let queued = desk.queued_count();
     let lost = desk.lost_count();
     let steps = desk.trace().steps.len();

@@ -45,14 +45,14 @@ fn done_text(alloc: Global, done: &Done) -> Result<String, AllocError> {
 }
 
 /// A wire on which a server gives these bytes.
-fn wire_of(alloc: Global, reply: &[u8]) -> Result<MemWire, RowFault> {
+pub(crate) fn wire_of(alloc: Global, reply: &[u8]) -> Result<MemWire, RowFault> {
     let bytes = Vec::from_slice(alloc, reply)?;
     let streams = vec![in alloc; Stream::new(bytes, Vec::new(alloc))]?;
     Ok(MemWire::new(alloc, streams, 1024, Vec::new(alloc)))
 }
 
 /// Appends what was sent on each connection.
-fn tell_sent(alloc: Global, wire: &MemWire, out: &mut String) -> Result<(), AllocError> {
+pub(crate) fn tell_sent(alloc: Global, wire: &MemWire, out: &mut String) -> Result<(), AllocError> {
     let Some(connections) = wire.connections()? else {
         return writeln!(out, "it does not tell");
     };

@@ -20,6 +20,7 @@ use crate::texts::{
     outcome_of_bytes, outcome_of_method, outcome_of_tag, outcome_of_text, outcome_of_two_seen,
     outcome_of_written,
 };
+use crate::turns::outcome_of_turn;
 use crate::uris::{outcome_of_base, outcome_of_redirect, outcome_of_reference};
 use dav_script::RowFault;
 use std::alloc::Global;
@@ -54,6 +55,7 @@ pub fn is_setting(kind: &str, word: &str) -> bool {
         "disk" => matches!(word, "fails" | "moment"),
         "desk" => matches!(word, "file" | "show"),
         "job" => matches!(word, "before"),
+        "turn" => matches!(word, "reply"),
         _ => false,
     }
 }
@@ -106,6 +108,7 @@ pub fn outcome_of(alloc: Global, case: &Case<'_>) -> Result<Vec<u8>, RowFault> {
         "disk" => outcome_of_disk(alloc, case),
         "desk" => outcome_of_desk(alloc, case),
         "job" => outcome_of_job(alloc, case),
+        "turn" => outcome_of_turn(alloc, case),
         "document" => outcome_of_document(alloc, case),
         "listing" => outcome_of_listing(alloc, case),
         _ => Err(case.given.bad_word()),

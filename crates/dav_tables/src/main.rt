@@ -21,6 +21,7 @@ mod requests;
 mod telling;
 mod texts;
 mod told;
+mod turns;
 mod uris;
 mod words;
 

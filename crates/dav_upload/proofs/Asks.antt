@@ -47,12 +47,12 @@ sums_so (Err fault) has = tt
 -- what a step of the desk says of an ask
 pub asked_so : {D : Type 0} (view : DiskView D) (now : ℕ) (ask : Ask) (x y : Desk D) (result : Answered)
     → IsAsk ask → IsAsked view.honest view.moment view.seen view.faults Uploader now ask x y result
-    → (view.honest → (url : List ℕ) (opening : DeskTable) (start : ℕ) (given : ℕ → List ℕ) → AreGiven x.table given ask → Works view url opening start given x → y.recorder.dead ≡ None → Works view url opening start given y)
-    → (view.honest → (url : List ℕ) (opening : DeskTable) (start : ℕ) (given : ℕ → List ℕ) → AreGiven x.table given ask → Works view url opening start given x → y.recorder.dead ≢ None → Stops view url opening start given y)
-    → (view.honest → IfOk result (λ answer. (url : List ℕ) (opening : DeskTable) (start : ℕ) (given : ℕ → List ℕ) → Works view url opening start given x → HasBytes given answer))
-    → IfOk result HasSum → view.faults x.recorder.disk ≤ view.faults y.recorder.disk
+    → (view.honest y.recorder.disk → (url : List ℕ) (opening : DeskTable) (start : ℕ) (given : ℕ → List ℕ) → AreGiven x.table given ask → Works view url opening start given x → y.recorder.dead ≡ None → Works view url opening start given y)
+    → (view.honest y.recorder.disk → (url : List ℕ) (opening : DeskTable) (start : ℕ) (given : ℕ → List ℕ) → AreGiven x.table given ask → Works view url opening start given x → y.recorder.dead ≢ None → Stops view url opening start given y)
+    → (view.honest y.recorder.disk → IfOk result (λ answer. (url : List ℕ) (opening : DeskTable) (start : ℕ) (given : ℕ → List ℕ) → Works view url opening start given x → HasBytes given answer))
+    → IfOk result HasSum → (view.honest y.recorder.disk → view.honest x.recorder.disk) → view.faults x.recorder.disk ≤ view.faults y.recorder.disk
     → AskedSo view now ask x y result
-asked_so view now ask x y result is_ask asked working stopped bytes sum no_fewer = record {
+asked_so view now ask x y result is_ask asked working stopped bytes sum keeps no_fewer = record {
   met = record { verdict = asked.verdict; bytes = asked.bytes };
   was = record {
     is_ask = is_ask;
@@ -64,6 +64,7 @@ asked_so view now ask x y result is_ask asked working stopped bytes sum no_fewer
     bytes = λ honest url opening start given works.
         subst (HasBytesIf given) asked.answer (bytes_so view x result (bytes honest) url opening start given works);
     sums = subst HasSumIf asked.answer (sums_so result sum);
+    keeps = keeps;
     no_fewer = no_fewer;
   };
   answer = asked.answer;

@@ -66,7 +66,17 @@ by_told P (Some tells.Idle) s none one = none
 by_told P (Some (tells.Settled fated)) s none one = one
 by_told P (Some tells.Stopping) s none one = one
 
-module _ {D : Type 0} (view : DiskView D) (honest : view.honest) (base : BaseParts) (url : List ℕ) (opening : DeskTable) (start : ℕ) (given : ℕ → List ℕ) (begun : DeviceLog) where
+-- a disk that is honest behind a turn was so before
+sent_keeps : {D : Type 0} (view : DiskView D) (base : BaseParts) (a b : DeviceLog) (x y : Desk D) (now : ℕ) (job : Job) (turned : Turned) → SentSo view base now job a b x y turned → view.honest y.recorder.disk → view.honest x.recorder.disk
+sent_keeps {D} view base a b x y now job turned (starved want sends same is) honest = subst (λ (d : Desk D). view.honest d.recorder.disk) same honest
+sent_keeps {D} view base a b x y now job turned (settled done answered sends asked is) honest = asked.was.keeps honest
+
+pub turn_keeps : {D : Type 0} (view : DiskView D) (base : BaseParts) (a b : DeviceLog) (x y : Desk D) (now : ℕ) (turned : Turned) → TurnSo view base now a b x y turned → view.honest y.recorder.disk → view.honest x.recorder.disk
+turn_keeps view base a b x y now turned (idle answer asked none same is) honest = asked.was.keeps honest
+turn_keeps view base a b x y now turned (stopped fault asked same is) honest = asked.was.keeps honest
+turn_keeps view base a b x y now turned (took mid answer job asked has sent) honest = asked.was.keeps (sent_keeps view base a b mid y now job turned sent honest)
+
+module _ {D : Type 0} (view : DiskView D) (base : BaseParts) (url : List ℕ) (opening : DeskTable) (start : ℕ) (given : ℕ → List ℕ) (begun : DeviceLog) where
   abbrev Work : DeviceLog → Desk D → Type 0
   Work wire x = IsAtWork view base url opening start given begun wire x
 
@@ -86,7 +96,7 @@ module _ {D : Type 0} (view : DiskView D) (honest : view.honest) (base : BasePar
   AfterVerdict Starved wire x = Work wire x
 
   module _ (a b : DeviceLog) (part : List Happened) (x y : Desk D) (now : ℕ) (ask : Ask) (met : Met) (work : Work a x) (grew : Grew a b part) (stored : AreGiven x.table given ask)
-      (put : (s : Step) → s.deed ≡ deed_of x.table ask → HasPutOf base given (job_sent x.table.job s.deed s.mark) part) (was : WasAsked view (event (asking Uploader now ask) met) x y) where
+      (put : (s : Step) → s.deed ≡ deed_of x.table ask → HasPutOf base given (job_sent x.table.job s.deed s.mark) part) (was : WasAsked view (event (asking Uploader now ask) met) x y) (honest : view.honest y.recorder.disk) where
     abbrev this_step : Step
     this_step = step_of x.table Uploader now ask (view.moment y.recorder.disk)
 
@@ -153,51 +163,52 @@ module _ {D : Type 0} (view : DiskView D) (honest : view.honest) (base : BasePar
       by (inr died) = subst (λ (r : Turned). After r b y) (sym (is ∙ ap (λ (f : UploadFault). let r : Turned = Err f in r) (end_is_desk fault died.ends))) after
   after_answer b x y now ask bytes Starved answer turned after cause goes alive is = subst (λ (r : Turned). After r b y) (sym is) after
 
-  sent_after : (a b : DeviceLog) (x y : Desk D) (now : ℕ) (job : Job) (turned : Turned) → SentSo view base now job a b x y turned → Work a x → x.table.job ≡ Some (flight_in job) → given job.body.file ≡ job.bytes → After turned b y
-  sent_after a b x y now job turned (starved want sends same is) work flies bytes =
+  sent_after : (a b : DeviceLog) (x y : Desk D) (now : ℕ) (job : Job) (turned : Turned) → SentSo view base now job a b x y turned → view.honest y.recorder.disk → Work a x → x.table.job ≡ Some (flight_in job) → given job.body.file ≡ job.bytes → After turned b y
+  sent_after a b x y now job turned (starved want sends same is) honest work flies bytes =
       subst (λ (r : Turned). After r b y) (sym is)
       (subst (λ (d : Desk D). Work b d) (sym same) (record {
         idle = work.idle;
         working = work.working;
         backed = backed_more base given opening x.recorder.trace.steps.items begun a b sends.uploads.made work.backed sends.uploads.grew;
       }))
-  sent_after a b x y now job turned (settled done answered sends asked is) work flies bytes =
+  sent_after a b x y now job turned (settled done answered sends asked is) honest work flies bytes =
       let puts = puts_if base given job done a b sends bytes in
       let ask : Ask = Settle job.number done in
       let after = after_ask a b puts.events x y now ask asked.met work puts.grew tt (λ s deed_is.
       subst (λ (o : Option Flight). HasPutOf base given (job_sent o s.deed s.mark) puts.events) (sym flies)
       (subst (λ (d : Deed). HasPutOf base given (job_sent (Some (flight_in job)) d s.mark) puts.events) (sym deed_is) (settling_sends base given (flight_in job) job.number done s.mark puts.events puts.put)))
-      asked.was in
+      asked.was honest in
       let answer = settle_answers x.table now (flight_in job) done asked.met.bytes flies in
       after_answer b x y now ask asked.met.bytes asked.met.verdict _ turned after asked.was.cause answer work.working.alive (is ∙ ap did_of asked.answer)
 
   -- after a take
-  took_after : (a : DeviceLog) (x y : Desk D) (now : ℕ) (answered : Answered) (asked : AskedSo view now Take x y answered) → Work a x → AfterVerdict asked.met.verdict a y
-  took_after a x y now answered asked work =
-      after_ask a a [] x y now Take asked.met work (grows_same is_failure a) tt (λ s deed_is. take_sends_none base given x.table.job s [] deed_is) asked.was
+  took_after : (a : DeviceLog) (x y : Desk D) (now : ℕ) (answered : Answered) (asked : AskedSo view now Take x y answered) → view.honest y.recorder.disk → Work a x → AfterVerdict asked.met.verdict a y
+  took_after a x y now answered asked honest work =
+      after_ask a a [] x y now Take asked.met work (grows_same is_failure a) tt (λ s deed_is. take_sends_none base given x.table.job s [] deed_is) asked.was honest
 
-  take_work : (a : DeviceLog) (x y : Desk D) (now : ℕ) (answer : Answer) (asked : AskedSo view now Take x y (Ok answer)) → Work a x → Work a y
-  take_work a x y now answer asked work = by asked.met.verdict asked.answer (took_after a x y now (Ok answer) asked work)
+  take_work : (a : DeviceLog) (x y : Desk D) (now : ℕ) (answer : Answer) (asked : AskedSo view now Take x y (Ok answer)) → view.honest y.recorder.disk → Work a x → Work a y
+  take_work a x y now answer asked honest work = by asked.met.verdict asked.answer (took_after a x y now (Ok answer) asked honest work)
     where
       by : (v : Verdict) → an_answer answer ≡ result_by v x.table now Take asked.met.bytes → AfterVerdict v a y → Work a y
       by Went is after = after
       by (Stopped fault) is after = let wrong : an_answer answer ≡ a_fault fault = is in cc
       by Starved is after = after
 
-  pub turn_after : (a b : DeviceLog) (x y : Desk D) (now : ℕ) (turned : Turned) → TurnSo view base now a b x y turned → Work a x → After turned b y
-  turn_after a b x y now turned (idle answer asked none same is) work =
-      subst (λ (r : Turned). After r b y) (sym is) (subst (λ (log : DeviceLog). Work log y) (sym same) (take_work a x y now answer asked work))
-  turn_after a b x y now turned (stopped fault asked same is) work =
+  pub turn_after : (a b : DeviceLog) (x y : Desk D) (now : ℕ) (turned : Turned) → TurnSo view base now a b x y turned → view.honest y.recorder.disk → Work a x → After turned b y
+  turn_after a b x y now turned (idle answer asked none same is) honest work =
+      subst (λ (r : Turned). After r b y) (sym is) (subst (λ (log : DeviceLog). Work log y) (sym same) (take_work a x y now answer asked honest work))
+  turn_after a b x y now turned (stopped fault asked same is) honest work =
       let answer = take_answers x.table now asked.met.bytes in
       subst (λ (log : DeviceLog). After turned log y) (sym same)
-      (after_answer a x y now Take asked.met.bytes asked.met.verdict answer.0 turned (took_after a x y now (Err fault) asked work) asked.was.cause answer.1 work.working.alive (is ∙ ap did_of asked.answer))
-  turn_after a b x y now turned (took mid answer job asked has sent) work =
+      (after_answer a x y now Take asked.met.bytes asked.met.verdict answer.0 turned (took_after a x y now (Err fault) asked honest work) asked.was.cause answer.1 work.working.alive (is ∙ ap did_of asked.answer))
+  turn_after a b x y now turned (took mid answer job asked has sent) honest work =
+      let honest_mid = sent_keeps view base a b mid y now job turned sent honest in
       let facts = took_facts x.table now asked.met answer job asked.answer has in
       let here : mid.table ≡ changed x.table (take_effect x.table (Some (flight_in job))) =
       asked.was.table ∙ ap (λ (v : Verdict). table_by v x.table now Take) facts.went ∙ take_flies x.table now (flight_in job) facts.taken_is in
       let told : HasBytesIf given (an_answer (answers.Took job)) =
-      subst (HasBytesIf given) (sym asked.answer ∙ ap an_answer facts.answer_is) (asked.was.bytes honest url opening start given work.working) in
-      sent_after a b mid y now job turned sent (take_work a x mid now answer asked work) (ap (λ (t : DeskTable). t.job) here) (sym told)
+      subst (HasBytesIf given) (sym asked.answer ∙ ap an_answer facts.answer_is) (asked.was.bytes honest_mid url opening start given work.working) in
+      sent_after a b mid y now job turned sent honest (take_work a x mid now answer asked honest_mid work) (ap (λ (t : DeskTable). t.job) here) (sym told)
 
   work_outlives : (b : DeviceLog) (y : Desk D) → Work b y → AllOutlive view base url opening start given begun b y
   work_outlives b y work =

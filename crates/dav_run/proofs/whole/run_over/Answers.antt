@@ -31,6 +31,7 @@ returns-in-Ok g c = λ words named here.
       under = fresh.3;
       dead = fresh.4;
       no_fewer = c.in-Ok.ensures.faults;
+      keeps = c.in-Ok.ensures.keeps;
       opened = c.in-Ok.ensures.opened;
       works = c.in-Ok.ensures.working;
     } in
@@ -45,7 +46,8 @@ returns-in-Err g c = λ words named here.
     let begun : HasNotStarted view c.text.result.now c.args.disk c.in-Err.disk c.in-Err.fault = record {
       cause = c.in-Err.ensures.fault;
       no_fewer = c.in-Err.ensures.faults;
-      recover = c.in-Err.ensures.any_moment;
+      keeps = c.in-Err.ensures.keeps;
+      recover = λ honest table given recover. c.in-Err.ensures.any_moment table given recover honest;
     } in
     let start = subst (λ (d : g.row.D.Denot). HasNotStarted view c.args.base.now.text c.args.disk d c.in-Err.fault) (sym c.unopened.ensures.disk) (subst (λ (text : List ℕ). HasNotStarted view text c.args.disk c.in-Err.disk c.in-Err.fault) c.text.ensures begun) in
     under_as view words _ _ _ _ _ _ c.args.disk _ _ _ _ _ c.unopened.ensures.trace.1

@@ -15,7 +15,7 @@ use Rattle.dav_upload.proofs.drains.drain.Given as goal
 abbrev pub invariant-loop-did : goal.invariant-loop-did
 invariant-loop-did g l =
     Reaches pair (PairGrew (disk_view g.D.Disk.honest g.D.Disk.moment g.D.Disk.seen g.D.Disk.past g.D.Disk.faults) (g.V.Wire.log l.fn.wire) (g.V.Wire.log l.wire) l.fn.desk l.desk) (Drains l.base l.now l.fn.desk.table) (Drains l.base l.now l.desk.table)
-    × (g.D.Disk.honest → (url : List ℕ) (opening : DeskTable) (start : ℕ) (given : ℕ → List ℕ) (begun : DeviceLog)
+    × (g.D.Disk.honest l.desk.recorder.disk → (url : List ℕ) (opening : DeskTable) (start : ℕ) (given : ℕ → List ℕ) (begun : DeviceLog)
     → IsAtWork (disk_view g.D.Disk.honest g.D.Disk.moment g.D.Disk.seen g.D.Disk.past g.D.Disk.faults) l.base url opening start given begun (g.V.Wire.log l.fn.wire) l.fn.desk
     → IsAtWork (disk_view g.D.Disk.honest g.D.Disk.moment g.D.Disk.seen g.D.Disk.past g.D.Disk.faults) l.base url opening start given begun (g.V.Wire.log l.wire) l.desk)
     × IsResting l.desk.table × (l.desk.table.stopping ≡ true)

@@ -10,7 +10,7 @@ returns-clause-does g c =
 
 pub returns-clause-work : goal.returns-clause-work
 returns-clause-work g c = λ honest url opening start given begun work.
-    turn_after (disk_view g.D.Disk.honest g.D.Disk.moment g.D.Disk.seen g.D.Disk.past g.D.Disk.faults) honest c.args.base.now url opening start given begun _ _ c.args.desk.now c.make_turn.new.desk c.args.now c.make_turn.result c.make_turn.ensures.turned work
+    turn_after (disk_view g.D.Disk.honest g.D.Disk.moment g.D.Disk.seen g.D.Disk.past g.D.Disk.faults) c.args.base.now url opening start given begun _ _ c.args.desk.now c.make_turn.new.desk c.args.now c.make_turn.result c.make_turn.ensures.turned honest work
 
 pub returns-clause-sound : goal.returns-clause-sound
 returns-clause-sound g c = λ sound.

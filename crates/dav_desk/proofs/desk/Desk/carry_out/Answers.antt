@@ -21,10 +21,10 @@ use Rattle.dav_deeds.specs.declared.deed.Trace.{Trace}
 use Rattle.dav_deeds.proofs.Sounds.{after_sound}
 use Rattle.dav_cache.specs.declared.recorder.Recorder.{Recorder}
 use Rattle.dav_desk.specs.Working.{IsWorking, HasBytes, HasSum}
-use Rattle.dav_desk.proofs.Carrying.{Base, Read, Stood, starved_asked, starved_readied, starved_faults, starved_works, starved_lives_on, missing_asked, missing_readied, read_faults, read_works, read_left, read_entry, read_named, lives, lives_read, entered_faults, failed_asked, failed_readied, failed_not_alive, went_asked, went_readied, went_works, went_lives_on}
+use Rattle.dav_desk.proofs.Carrying.{Base, Read, Stood, starved_asked, starved_readied, starved_faults, starved_works, starved_lives_on, can_record, missing_asked, missing_readied, read_faults, read_works, read_left, read_entry, read_named, lives, lives_read, entered_faults, failed_asked, failed_readied, failed_not_alive, went_asked, went_readied, went_works, went_lives_on}
 use Rattle.dav_desk.proofs.Rooming.{held_slot, one_slot}
 use Rattle.dav_desk.proofs.Entering.{row_fits, new_begins, freed_begin}
-use Rattle.dav_desk.proofs.Going.{records_reserved, answer_has, job_bytes, job_sum}
+use Rattle.dav_desk.proofs.Going.{answer_has, job_bytes, job_sum}
 use Rattle.dav_cache.proofs.Filing.{changes_none}
 use Rattle.dav_cache.specs.Stands.{IsWritten}
 use Rattle.dav_desk.specs.Changed.{fresh_by, freed_by}
@@ -84,7 +84,7 @@ returns-in-Err-clause-asked g c =
     let b : Base g.D.Disk.honest g.D.Disk.moment g.D.Disk.seen g.D.Disk.past c.args.self.now c.args.ask.now c.args.planned c.args.row.now c.reserve.new.self =
     record { alive = c.requires.alive; sound = c.requires.sound; plan = c.requires.plan; ready = c.requires.ready; held = c.requires.held; rest = c.reserve.ensures.rest; room = c.reserve.ensures.items; more = c.reserve.ensures.capacity } in
     let k : Read g.D.Disk.honest g.D.Disk.moment g.D.Disk.seen g.D.Disk.past g.D.Disk.faults c.reserve.new.self c.told_bytes.new.recorder =
-    record { trace = c.told_bytes.ensures.trace; more = c.told_bytes.ensures.faults; ready = c.told_bytes.ensures.ready; live = c.told_bytes.ensures.live } in
+    record { trace = c.told_bytes.ensures.trace; more = c.told_bytes.ensures.faults; keeps = c.told_bytes.ensures.keeps; ready = c.told_bytes.ensures.ready; live = c.told_bytes.ensures.live } in
     missing_asked g.D.Disk.honest g.D.Disk.moment g.D.Disk.seen g.D.Disk.past g.D.Disk.faults c.args.self.now c.args.ask.now c.args.planned c.args.row.now c.reserve.new.self b c.told_bytes.new.recorder k c.in-Err.fault c.in-Err.ensures.fault c.in-Err.ensures.starved c.in-Err.ensures.stopped
 
 pub returns-in-Err-clause-working : goal.returns-in-Err-clause-working
@@ -92,7 +92,7 @@ returns-in-Err-clause-working g c h url opening start given has is dead =
     let b : Base g.D.Disk.honest g.D.Disk.moment g.D.Disk.seen g.D.Disk.past c.args.self.now c.args.ask.now c.args.planned c.args.row.now c.reserve.new.self =
     record { alive = c.requires.alive; sound = c.requires.sound; plan = c.requires.plan; ready = c.requires.ready; held = c.requires.held; rest = c.reserve.ensures.rest; room = c.reserve.ensures.items; more = c.reserve.ensures.capacity } in
     let k : Read g.D.Disk.honest g.D.Disk.moment g.D.Disk.seen g.D.Disk.past g.D.Disk.faults c.reserve.new.self c.told_bytes.new.recorder =
-    record { trace = c.told_bytes.ensures.trace; more = c.told_bytes.ensures.faults; ready = c.told_bytes.ensures.ready; live = c.told_bytes.ensures.live } in
+    record { trace = c.told_bytes.ensures.trace; more = c.told_bytes.ensures.faults; keeps = c.told_bytes.ensures.keeps; ready = c.told_bytes.ensures.ready; live = c.told_bytes.ensures.live } in
     read_works g.D.Disk.honest g.D.Disk.moment g.D.Disk.seen g.D.Disk.past g.D.Disk.faults c.args.self.now c.args.ask.now c.args.planned c.args.row.now c.reserve.new.self b c.told_bytes.new.recorder k h url opening start given is dead
 
 pub returns-in-Err-clause-stopped : goal.returns-in-Err-clause-stopped
@@ -100,7 +100,7 @@ returns-in-Err-clause-stopped g c h url opening start given has is dead =
     let b : Base g.D.Disk.honest g.D.Disk.moment g.D.Disk.seen g.D.Disk.past c.args.self.now c.args.ask.now c.args.planned c.args.row.now c.reserve.new.self =
     record { alive = c.requires.alive; sound = c.requires.sound; plan = c.requires.plan; ready = c.requires.ready; held = c.requires.held; rest = c.reserve.ensures.rest; room = c.reserve.ensures.items; more = c.reserve.ensures.capacity } in
     let k : Read g.D.Disk.honest g.D.Disk.moment g.D.Disk.seen g.D.Disk.past g.D.Disk.faults c.reserve.new.self c.told_bytes.new.recorder =
-    record { trace = c.told_bytes.ensures.trace; more = c.told_bytes.ensures.faults; ready = c.told_bytes.ensures.ready; live = c.told_bytes.ensures.live } in
+    record { trace = c.told_bytes.ensures.trace; more = c.told_bytes.ensures.faults; keeps = c.told_bytes.ensures.keeps; ready = c.told_bytes.ensures.ready; live = c.told_bytes.ensures.live } in
     read_left g.D.Disk.honest g.D.Disk.moment g.D.Disk.seen g.D.Disk.past g.D.Disk.faults c.args.self.now c.args.ask.now c.args.planned c.args.row.now c.reserve.new.self b c.told_bytes.new.recorder k h url opening start given is
 
 pub returns-in-Err-clause-sound : goal.returns-in-Err-clause-sound
@@ -112,7 +112,7 @@ returns-in-Err-clause-readied g c =
     let b : Base g.D.Disk.honest g.D.Disk.moment g.D.Disk.seen g.D.Disk.past c.args.self.now c.args.ask.now c.args.planned c.args.row.now c.reserve.new.self =
     record { alive = c.requires.alive; sound = c.requires.sound; plan = c.requires.plan; ready = c.requires.ready; held = c.requires.held; rest = c.reserve.ensures.rest; room = c.reserve.ensures.items; more = c.reserve.ensures.capacity } in
     let k : Read g.D.Disk.honest g.D.Disk.moment g.D.Disk.seen g.D.Disk.past g.D.Disk.faults c.reserve.new.self c.told_bytes.new.recorder =
-    record { trace = c.told_bytes.ensures.trace; more = c.told_bytes.ensures.faults; ready = c.told_bytes.ensures.ready; live = c.told_bytes.ensures.live } in
+    record { trace = c.told_bytes.ensures.trace; more = c.told_bytes.ensures.faults; keeps = c.told_bytes.ensures.keeps; ready = c.told_bytes.ensures.ready; live = c.told_bytes.ensures.live } in
     missing_readied g.D.Disk.honest g.D.Disk.moment g.D.Disk.seen g.D.Disk.past g.D.Disk.faults c.args.self.now c.args.ask.now c.args.planned c.args.row.now c.reserve.new.self b c.told_bytes.new.recorder k c.in-Err.fault c.in-Err.ensures.fault c.in-Err.ensures.starved c.in-Err.ensures.stopped
 
 pub returns-in-Err-clause-faults : goal.returns-in-Err-clause-faults
@@ -120,7 +120,7 @@ returns-in-Err-clause-faults g c =
     let b : Base g.D.Disk.honest g.D.Disk.moment g.D.Disk.seen g.D.Disk.past c.args.self.now c.args.ask.now c.args.planned c.args.row.now c.reserve.new.self =
     record { alive = c.requires.alive; sound = c.requires.sound; plan = c.requires.plan; ready = c.requires.ready; held = c.requires.held; rest = c.reserve.ensures.rest; room = c.reserve.ensures.items; more = c.reserve.ensures.capacity } in
     let k : Read g.D.Disk.honest g.D.Disk.moment g.D.Disk.seen g.D.Disk.past g.D.Disk.faults c.reserve.new.self c.told_bytes.new.recorder =
-    record { trace = c.told_bytes.ensures.trace; more = c.told_bytes.ensures.faults; ready = c.told_bytes.ensures.ready; live = c.told_bytes.ensures.live } in
+    record { trace = c.told_bytes.ensures.trace; more = c.told_bytes.ensures.faults; keeps = c.told_bytes.ensures.keeps; ready = c.told_bytes.ensures.ready; live = c.told_bytes.ensures.live } in
     read_faults g.D.Disk.honest g.D.Disk.moment g.D.Disk.seen g.D.Disk.past g.D.Disk.faults c.args.self.now c.args.ask.now c.args.planned c.args.row.now c.reserve.new.self b c.told_bytes.new.recorder k
 
 pub enter-requires-clause-fits : goal.enter-requires-clause-fits
@@ -142,14 +142,16 @@ enter-requires-clause-room g c =
 
 pub enter-requires-clause-ready : goal.enter-requires-clause-ready
 enter-requires-clause-ready g c h =
-    c.told_bytes.ensures.ready h (records_reserved g.D.Disk.honest g.D.Disk.moment g.D.Disk.seen g.D.Disk.past c.args.self.now.recorder c.reserve.new.self c.reserve.ensures.rest (c.requires.ready h))
+    let b : Base g.D.Disk.honest g.D.Disk.moment g.D.Disk.seen g.D.Disk.past c.args.self.now c.args.ask.now c.args.planned c.args.row.now c.reserve.new.self =
+    record { alive = c.requires.alive; sound = c.requires.sound; plan = c.requires.plan; ready = c.requires.ready; held = c.requires.held; rest = c.reserve.ensures.rest; room = c.reserve.ensures.items; more = c.reserve.ensures.capacity } in
+    c.told_bytes.ensures.ready h (can_record g.D.Disk.honest g.D.Disk.moment g.D.Disk.seen g.D.Disk.past g.D.Disk.faults c.args.self.now c.args.ask.now c.args.planned c.args.row.now c.reserve.new.self b (c.told_bytes.ensures.keeps h))
 
 pub returns-in-Err-enter-clause-asked : goal.returns-in-Err-enter-clause-asked
 returns-in-Err-enter-clause-asked g c =
     let b : Base g.D.Disk.honest g.D.Disk.moment g.D.Disk.seen g.D.Disk.past c.args.self.now c.args.ask.now c.args.planned c.args.row.now c.reserve.new.self =
     record { alive = c.requires.alive; sound = c.requires.sound; plan = c.requires.plan; ready = c.requires.ready; held = c.requires.held; rest = c.reserve.ensures.rest; room = c.reserve.ensures.items; more = c.reserve.ensures.capacity } in
     let k : Read g.D.Disk.honest g.D.Disk.moment g.D.Disk.seen g.D.Disk.past g.D.Disk.faults c.reserve.new.self c.told_bytes.new.recorder =
-    record { trace = c.told_bytes.ensures.trace; more = c.told_bytes.ensures.faults; ready = c.told_bytes.ensures.ready; live = c.told_bytes.ensures.live } in
+    record { trace = c.told_bytes.ensures.trace; more = c.told_bytes.ensures.faults; keeps = c.told_bytes.ensures.keeps; ready = c.told_bytes.ensures.ready; live = c.told_bytes.ensures.live } in
     failed_asked g.D.Disk.honest g.D.Disk.moment g.D.Disk.seen g.D.Disk.past g.D.Disk.faults c.args.self.now c.args.ask.now c.args.planned c.args.row.now c.reserve.new.self b c.told_bytes.new.recorder k c.enter.new.recorder c.enter.ensures.faults c.in-Err-enter.fault c.in-Err-enter.ensures.stopped
 
 pub returns-in-Err-enter-clause-working : goal.returns-in-Err-enter-clause-working
@@ -157,7 +159,7 @@ returns-in-Err-enter-clause-working g c h url opening start given has is dead =
     let b : Base g.D.Disk.honest g.D.Disk.moment g.D.Disk.seen g.D.Disk.past c.args.self.now c.args.ask.now c.args.planned c.args.row.now c.reserve.new.self =
     record { alive = c.requires.alive; sound = c.requires.sound; plan = c.requires.plan; ready = c.requires.ready; held = c.requires.held; rest = c.reserve.ensures.rest; room = c.reserve.ensures.items; more = c.reserve.ensures.capacity } in
     let k : Read g.D.Disk.honest g.D.Disk.moment g.D.Disk.seen g.D.Disk.past g.D.Disk.faults c.reserve.new.self c.told_bytes.new.recorder =
-    record { trace = c.told_bytes.ensures.trace; more = c.told_bytes.ensures.faults; ready = c.told_bytes.ensures.ready; live = c.told_bytes.ensures.live } in
+    record { trace = c.told_bytes.ensures.trace; more = c.told_bytes.ensures.faults; keeps = c.told_bytes.ensures.keeps; ready = c.told_bytes.ensures.ready; live = c.told_bytes.ensures.live } in
     absurd (failed_not_alive g.D.Disk.honest g.D.Disk.moment g.D.Disk.seen g.D.Disk.past g.D.Disk.faults c.args.self.now c.args.ask.now c.args.planned c.args.row.now c.reserve.new.self b c.told_bytes.new.recorder k c.enter.new.recorder c.enter.ensures.faults c.in-Err-enter.ensures.stopped.1 dead)
 
 pub returns-in-Err-enter-clause-stopped : goal.returns-in-Err-enter-clause-stopped
@@ -165,8 +167,8 @@ returns-in-Err-enter-clause-stopped g c h url opening start given has is dead =
     let b : Base g.D.Disk.honest g.D.Disk.moment g.D.Disk.seen g.D.Disk.past c.args.self.now c.args.ask.now c.args.planned c.args.row.now c.reserve.new.self =
     record { alive = c.requires.alive; sound = c.requires.sound; plan = c.requires.plan; ready = c.requires.ready; held = c.requires.held; rest = c.reserve.ensures.rest; room = c.reserve.ensures.items; more = c.reserve.ensures.capacity } in
     let k : Read g.D.Disk.honest g.D.Disk.moment g.D.Disk.seen g.D.Disk.past g.D.Disk.faults c.reserve.new.self c.told_bytes.new.recorder =
-    record { trace = c.told_bytes.ensures.trace; more = c.told_bytes.ensures.faults; ready = c.told_bytes.ensures.ready; live = c.told_bytes.ensures.live } in
-    c.in-Err-enter.ensures.left h url opening start given (read_entry g.D.Disk.honest g.D.Disk.moment g.D.Disk.seen g.D.Disk.past g.D.Disk.faults c.args.self.now c.args.ask.now c.args.planned c.args.row.now c.reserve.new.self b c.told_bytes.new.recorder k h url opening start given is has c.bytes_of.result.now c.as_slice.result.now c.bytes_of.ensures c.as_slice.ensures.value) (lives_read g.D.Disk.honest g.D.Disk.moment g.D.Disk.seen g.D.Disk.past g.D.Disk.faults c.args.self.now c.args.ask.now c.args.planned c.args.row.now c.reserve.new.self b c.told_bytes.new.recorder k h url opening start given is)
+    record { trace = c.told_bytes.ensures.trace; more = c.told_bytes.ensures.faults; keeps = c.told_bytes.ensures.keeps; ready = c.told_bytes.ensures.ready; live = c.told_bytes.ensures.live } in
+    c.in-Err-enter.ensures.left h url opening start given (read_entry g.D.Disk.honest g.D.Disk.moment g.D.Disk.seen g.D.Disk.past g.D.Disk.faults c.args.self.now c.args.ask.now c.args.planned c.args.row.now c.reserve.new.self b c.told_bytes.new.recorder k (c.enter.ensures.keeps h) url opening start given is has c.bytes_of.result.now c.as_slice.result.now c.bytes_of.ensures c.as_slice.ensures.value) (lives_read g.D.Disk.honest g.D.Disk.moment g.D.Disk.seen g.D.Disk.past g.D.Disk.faults c.args.self.now c.args.ask.now c.args.planned c.args.row.now c.reserve.new.self b c.told_bytes.new.recorder k (c.enter.ensures.keeps h) url opening start given is)
 
 pub returns-in-Err-enter-clause-sound : goal.returns-in-Err-enter-clause-sound
 returns-in-Err-enter-clause-sound g c =
@@ -177,7 +179,7 @@ returns-in-Err-enter-clause-readied g c =
     let b : Base g.D.Disk.honest g.D.Disk.moment g.D.Disk.seen g.D.Disk.past c.args.self.now c.args.ask.now c.args.planned c.args.row.now c.reserve.new.self =
     record { alive = c.requires.alive; sound = c.requires.sound; plan = c.requires.plan; ready = c.requires.ready; held = c.requires.held; rest = c.reserve.ensures.rest; room = c.reserve.ensures.items; more = c.reserve.ensures.capacity } in
     let k : Read g.D.Disk.honest g.D.Disk.moment g.D.Disk.seen g.D.Disk.past g.D.Disk.faults c.reserve.new.self c.told_bytes.new.recorder =
-    record { trace = c.told_bytes.ensures.trace; more = c.told_bytes.ensures.faults; ready = c.told_bytes.ensures.ready; live = c.told_bytes.ensures.live } in
+    record { trace = c.told_bytes.ensures.trace; more = c.told_bytes.ensures.faults; keeps = c.told_bytes.ensures.keeps; ready = c.told_bytes.ensures.ready; live = c.told_bytes.ensures.live } in
     failed_readied g.D.Disk.honest g.D.Disk.moment g.D.Disk.seen g.D.Disk.past g.D.Disk.faults c.args.self.now c.args.ask.now c.args.planned c.args.row.now c.reserve.new.self b c.told_bytes.new.recorder k c.enter.new.recorder c.enter.ensures.faults c.in-Err-enter.ensures.stopped.1
 
 pub returns-in-Err-enter-clause-faults : goal.returns-in-Err-enter-clause-faults
@@ -185,7 +187,7 @@ returns-in-Err-enter-clause-faults g c =
     let b : Base g.D.Disk.honest g.D.Disk.moment g.D.Disk.seen g.D.Disk.past c.args.self.now c.args.ask.now c.args.planned c.args.row.now c.reserve.new.self =
     record { alive = c.requires.alive; sound = c.requires.sound; plan = c.requires.plan; ready = c.requires.ready; held = c.requires.held; rest = c.reserve.ensures.rest; room = c.reserve.ensures.items; more = c.reserve.ensures.capacity } in
     let k : Read g.D.Disk.honest g.D.Disk.moment g.D.Disk.seen g.D.Disk.past g.D.Disk.faults c.reserve.new.self c.told_bytes.new.recorder =
-    record { trace = c.told_bytes.ensures.trace; more = c.told_bytes.ensures.faults; ready = c.told_bytes.ensures.ready; live = c.told_bytes.ensures.live } in
+    record { trace = c.told_bytes.ensures.trace; more = c.told_bytes.ensures.faults; keeps = c.told_bytes.ensures.keeps; ready = c.told_bytes.ensures.ready; live = c.told_bytes.ensures.live } in
     entered_faults g.D.Disk.honest g.D.Disk.moment g.D.Disk.seen g.D.Disk.past g.D.Disk.faults c.args.self.now c.args.ask.now c.args.planned c.args.row.now c.reserve.new.self b c.told_bytes.new.recorder k c.enter.new.recorder c.enter.ensures.faults
 
 pub apply-requires : goal.apply-requires
@@ -201,7 +203,7 @@ returns-clause-asked g c =
     let b : Base g.D.Disk.honest g.D.Disk.moment g.D.Disk.seen g.D.Disk.past c.args.self.now c.args.ask.now c.args.planned c.args.row.now c.reserve.new.self =
     record { alive = c.requires.alive; sound = c.requires.sound; plan = c.requires.plan; ready = c.requires.ready; held = c.requires.held; rest = c.reserve.ensures.rest; room = c.reserve.ensures.items; more = c.reserve.ensures.capacity } in
     let k : Read g.D.Disk.honest g.D.Disk.moment g.D.Disk.seen g.D.Disk.past g.D.Disk.faults c.reserve.new.self c.told_bytes.new.recorder =
-    record { trace = c.told_bytes.ensures.trace; more = c.told_bytes.ensures.faults; ready = c.told_bytes.ensures.ready; live = c.told_bytes.ensures.live } in
+    record { trace = c.told_bytes.ensures.trace; more = c.told_bytes.ensures.faults; keeps = c.told_bytes.ensures.keeps; ready = c.told_bytes.ensures.ready; live = c.told_bytes.ensures.live } in
     let m : Stood g.D.Disk.moment g.D.Disk.faults c.args.self.now c.args.ask.now c.args.planned c.reserve.new.self c.told_bytes.new.recorder c.enter.new.recorder c.apply.new.self =
     record {
       kept = c.in-Ok.ensures.alive;
@@ -216,7 +218,7 @@ returns-clause-working g c h url opening start given has is dead =
     let b : Base g.D.Disk.honest g.D.Disk.moment g.D.Disk.seen g.D.Disk.past c.args.self.now c.args.ask.now c.args.planned c.args.row.now c.reserve.new.self =
     record { alive = c.requires.alive; sound = c.requires.sound; plan = c.requires.plan; ready = c.requires.ready; held = c.requires.held; rest = c.reserve.ensures.rest; room = c.reserve.ensures.items; more = c.reserve.ensures.capacity } in
     let k : Read g.D.Disk.honest g.D.Disk.moment g.D.Disk.seen g.D.Disk.past g.D.Disk.faults c.reserve.new.self c.told_bytes.new.recorder =
-    record { trace = c.told_bytes.ensures.trace; more = c.told_bytes.ensures.faults; ready = c.told_bytes.ensures.ready; live = c.told_bytes.ensures.live } in
+    record { trace = c.told_bytes.ensures.trace; more = c.told_bytes.ensures.faults; keeps = c.told_bytes.ensures.keeps; ready = c.told_bytes.ensures.ready; live = c.told_bytes.ensures.live } in
     let m : Stood g.D.Disk.moment g.D.Disk.faults c.args.self.now c.args.ask.now c.args.planned c.reserve.new.self c.told_bytes.new.recorder c.enter.new.recorder c.apply.new.self =
     record {
       kept = c.in-Ok.ensures.alive;
@@ -224,14 +226,14 @@ returns-clause-working g c h url opening start given has is dead =
       ended = c.in-Ok-enter.ensures.ended;
       applied = c.apply.ensures c.args.planned.made.step.now (deed_of c.args.self.now.table c.args.ask.now) c.requires.plan.change;
     } in
-    went_works g.D.Disk.honest g.D.Disk.moment g.D.Disk.seen g.D.Disk.past g.D.Disk.faults c.args.self.now c.args.ask.now c.args.planned c.args.row.now c.reserve.new.self b c.told_bytes.new.recorder k c.enter.new.recorder c.apply.new.self c.kept_spare.result m url opening start given is (c.in-Ok-enter.ensures.live h url opening start given (read_entry g.D.Disk.honest g.D.Disk.moment g.D.Disk.seen g.D.Disk.past g.D.Disk.faults c.args.self.now c.args.ask.now c.args.planned c.args.row.now c.reserve.new.self b c.told_bytes.new.recorder k h url opening start given is has c.bytes_of.result.now c.as_slice.result.now c.bytes_of.ensures c.as_slice.ensures.value) (lives_read g.D.Disk.honest g.D.Disk.moment g.D.Disk.seen g.D.Disk.past g.D.Disk.faults c.args.self.now c.args.ask.now c.args.planned c.args.row.now c.reserve.new.self b c.told_bytes.new.recorder k h url opening start given is))
+    went_works g.D.Disk.honest g.D.Disk.moment g.D.Disk.seen g.D.Disk.past g.D.Disk.faults c.args.self.now c.args.ask.now c.args.planned c.args.row.now c.reserve.new.self b c.told_bytes.new.recorder k c.enter.new.recorder c.apply.new.self c.kept_spare.result m url opening start given is (c.in-Ok-enter.ensures.live h url opening start given (read_entry g.D.Disk.honest g.D.Disk.moment g.D.Disk.seen g.D.Disk.past g.D.Disk.faults c.args.self.now c.args.ask.now c.args.planned c.args.row.now c.reserve.new.self b c.told_bytes.new.recorder k (c.enter.ensures.keeps h) url opening start given is has c.bytes_of.result.now c.as_slice.result.now c.bytes_of.ensures c.as_slice.ensures.value) (lives_read g.D.Disk.honest g.D.Disk.moment g.D.Disk.seen g.D.Disk.past g.D.Disk.faults c.args.self.now c.args.ask.now c.args.planned c.args.row.now c.reserve.new.self b c.told_bytes.new.recorder k (c.enter.ensures.keeps h) url opening start given is))
 
 pub returns-clause-stopped : goal.returns-clause-stopped
 returns-clause-stopped g c h url opening start given has is dead =
     let b : Base g.D.Disk.honest g.D.Disk.moment g.D.Disk.seen g.D.Disk.past c.args.self.now c.args.ask.now c.args.planned c.args.row.now c.reserve.new.self =
     record { alive = c.requires.alive; sound = c.requires.sound; plan = c.requires.plan; ready = c.requires.ready; held = c.requires.held; rest = c.reserve.ensures.rest; room = c.reserve.ensures.items; more = c.reserve.ensures.capacity } in
     let k : Read g.D.Disk.honest g.D.Disk.moment g.D.Disk.seen g.D.Disk.past g.D.Disk.faults c.reserve.new.self c.told_bytes.new.recorder =
-    record { trace = c.told_bytes.ensures.trace; more = c.told_bytes.ensures.faults; ready = c.told_bytes.ensures.ready; live = c.told_bytes.ensures.live } in
+    record { trace = c.told_bytes.ensures.trace; more = c.told_bytes.ensures.faults; keeps = c.told_bytes.ensures.keeps; ready = c.told_bytes.ensures.ready; live = c.told_bytes.ensures.live } in
     let m : Stood g.D.Disk.moment g.D.Disk.faults c.args.self.now c.args.ask.now c.args.planned c.reserve.new.self c.told_bytes.new.recorder c.enter.new.recorder c.apply.new.self =
     record {
       kept = c.in-Ok.ensures.alive;
@@ -246,11 +248,11 @@ returns-clause-bytes g c h =
     let b : Base g.D.Disk.honest g.D.Disk.moment g.D.Disk.seen g.D.Disk.past c.args.self.now c.args.ask.now c.args.planned c.args.row.now c.reserve.new.self =
     record { alive = c.requires.alive; sound = c.requires.sound; plan = c.requires.plan; ready = c.requires.ready; held = c.requires.held; rest = c.reserve.ensures.rest; room = c.reserve.ensures.items; more = c.reserve.ensures.capacity } in
     let k : Read g.D.Disk.honest g.D.Disk.moment g.D.Disk.seen g.D.Disk.past g.D.Disk.faults c.reserve.new.self c.told_bytes.new.recorder =
-    record { trace = c.told_bytes.ensures.trace; more = c.told_bytes.ensures.faults; ready = c.told_bytes.ensures.ready; live = c.told_bytes.ensures.live } in
+    record { trace = c.told_bytes.ensures.trace; more = c.told_bytes.ensures.faults; keeps = c.told_bytes.ensures.keeps; ready = c.told_bytes.ensures.ready; live = c.told_bytes.ensures.live } in
     answer_has (λ (a : Answer). (url : List ℕ) (opening : DeskTable) (start : ℕ) (given : ℕ → List ℕ) → IsWorking g.D.Disk.moment g.D.Disk.seen g.D.Disk.past url opening start given c.args.self.now → HasBytes given a)
     (effect_of c.args.self.now.table c.args.planned.made.step.now (deed_of c.args.self.now.table c.args.ask.now)).mark (effect_of c.args.self.now.table c.args.planned.made.step.now (deed_of c.args.self.now.table c.args.ask.now)).told c.in-Ok.bytes c.args.planned.made.answer c.with_bytes.result c.with_bytes.ensures c.requires.plan.answer
     (λ told at url opening start given is. job_bytes given c.in-Ok.bytes told
-    (λ flight same. c.in-Ok.ensures.bytes h flight (ap (λ (s : Step). s.told) c.requires.plan.step ∙ at ∙ ap (λ (x : Told). Some x) same) url opening start given (lives g.D.Disk.honest g.D.Disk.moment g.D.Disk.seen g.D.Disk.past g.D.Disk.faults c.args.self.now c.args.ask.now c.args.planned c.args.row.now c.reserve.new.self b url opening start given is) (read_named g.D.Disk.honest g.D.Disk.moment g.D.Disk.seen g.D.Disk.past g.D.Disk.faults c.args.self.now c.args.ask.now c.args.planned c.args.row.now c.reserve.new.self b c.told_bytes.new.recorder k h url opening start given is flight (ap (λ (s : Step). s.told) c.requires.plan.step ∙ at ∙ ap (λ (x : Told). Some x) same))))
+    (λ flight same. c.in-Ok.ensures.bytes (c.enter.ensures.keeps h) flight (ap (λ (s : Step). s.told) c.requires.plan.step ∙ at ∙ ap (λ (x : Told). Some x) same) url opening start given (lives g.D.Disk.honest g.D.Disk.moment g.D.Disk.seen g.D.Disk.past g.D.Disk.faults c.args.self.now c.args.ask.now c.args.planned c.args.row.now c.reserve.new.self b url opening start given is) (read_named g.D.Disk.honest g.D.Disk.moment g.D.Disk.seen g.D.Disk.past g.D.Disk.faults c.args.self.now c.args.ask.now c.args.planned c.args.row.now c.reserve.new.self b c.told_bytes.new.recorder k (c.enter.ensures.keeps h) url opening start given is flight (ap (λ (s : Step). s.told) c.requires.plan.step ∙ at ∙ ap (λ (x : Told). Some x) same))))
 
 pub returns-clause-sum : goal.returns-clause-sum
 returns-clause-sum g c =
@@ -266,7 +268,7 @@ returns-clause-readied g c =
     let b : Base g.D.Disk.honest g.D.Disk.moment g.D.Disk.seen g.D.Disk.past c.args.self.now c.args.ask.now c.args.planned c.args.row.now c.reserve.new.self =
     record { alive = c.requires.alive; sound = c.requires.sound; plan = c.requires.plan; ready = c.requires.ready; held = c.requires.held; rest = c.reserve.ensures.rest; room = c.reserve.ensures.items; more = c.reserve.ensures.capacity } in
     let k : Read g.D.Disk.honest g.D.Disk.moment g.D.Disk.seen g.D.Disk.past g.D.Disk.faults c.reserve.new.self c.told_bytes.new.recorder =
-    record { trace = c.told_bytes.ensures.trace; more = c.told_bytes.ensures.faults; ready = c.told_bytes.ensures.ready; live = c.told_bytes.ensures.live } in
+    record { trace = c.told_bytes.ensures.trace; more = c.told_bytes.ensures.faults; keeps = c.told_bytes.ensures.keeps; ready = c.told_bytes.ensures.ready; live = c.told_bytes.ensures.live } in
     let m : Stood g.D.Disk.moment g.D.Disk.faults c.args.self.now c.args.ask.now c.args.planned c.reserve.new.self c.told_bytes.new.recorder c.enter.new.recorder c.apply.new.self =
     record {
       kept = c.in-Ok.ensures.alive;
@@ -283,7 +285,7 @@ returns-clause-faults g c =
     let b : Base g.D.Disk.honest g.D.Disk.moment g.D.Disk.seen g.D.Disk.past c.args.self.now c.args.ask.now c.args.planned c.args.row.now c.reserve.new.self =
     record { alive = c.requires.alive; sound = c.requires.sound; plan = c.requires.plan; ready = c.requires.ready; held = c.requires.held; rest = c.reserve.ensures.rest; room = c.reserve.ensures.items; more = c.reserve.ensures.capacity } in
     let k : Read g.D.Disk.honest g.D.Disk.moment g.D.Disk.seen g.D.Disk.past g.D.Disk.faults c.reserve.new.self c.told_bytes.new.recorder =
-    record { trace = c.told_bytes.ensures.trace; more = c.told_bytes.ensures.faults; ready = c.told_bytes.ensures.ready; live = c.told_bytes.ensures.live } in
+    record { trace = c.told_bytes.ensures.trace; more = c.told_bytes.ensures.faults; keeps = c.told_bytes.ensures.keeps; ready = c.told_bytes.ensures.ready; live = c.told_bytes.ensures.live } in
     entered_faults g.D.Disk.honest g.D.Disk.moment g.D.Disk.seen g.D.Disk.past g.D.Disk.faults c.args.self.now c.args.ask.now c.args.planned c.args.row.now c.reserve.new.self b c.told_bytes.new.recorder k c.enter.new.recorder c.enter.ensures.faults
 
 pub returns-in_err-reserve-clause-changes : goal.returns-in_err-reserve-clause-changes
@@ -302,12 +304,12 @@ returns-in-Err-clause-changes g c h =
 pub returns-in-Err-enter-clause-changes : goal.returns-in-Err-enter-clause-changes
 returns-in-Err-enter-clause-changes g c h =
     changes_asked c.args.self.now.table c.args.planned.made.step.now c.args.ask.now c.args.planned.made.step.deed c.bytes_of.result.now c.as_slice.result.now (ap (λ (s : Step). s.deed) c.requires.plan.step) (c.as_slice.ensures.value ∙ c.requires.plan.released) g.D.Disk.moment g.D.Disk.seen g.D.Disk.past
-    c.args.self.now.recorder.disk c.reserve.new.self.disk c.told_bytes.new.recorder.disk c.enter.new.recorder.disk (ap (λ (x : Recorder g.row.D.Denot). x.disk) c.reserve.ensures.rest) (c.told_bytes.ensures.changes h) (c.enter.ensures.changes h)
+    c.args.self.now.recorder.disk c.reserve.new.self.disk c.told_bytes.new.recorder.disk c.enter.new.recorder.disk (ap (λ (x : Recorder g.row.D.Denot). x.disk) c.reserve.ensures.rest) (c.told_bytes.ensures.changes (c.enter.ensures.keeps h)) (c.enter.ensures.changes h)
 
 pub returns-clause-changes : goal.returns-clause-changes
 returns-clause-changes g c h =
     changes_asked c.args.self.now.table c.args.planned.made.step.now c.args.ask.now c.args.planned.made.step.deed c.bytes_of.result.now c.as_slice.result.now (ap (λ (s : Step). s.deed) c.requires.plan.step) (c.as_slice.ensures.value ∙ c.requires.plan.released) g.D.Disk.moment g.D.Disk.seen g.D.Disk.past
-    c.args.self.now.recorder.disk c.reserve.new.self.disk c.told_bytes.new.recorder.disk c.enter.new.recorder.disk (ap (λ (x : Recorder g.row.D.Denot). x.disk) c.reserve.ensures.rest) (c.told_bytes.ensures.changes h) (c.enter.ensures.changes h)
+    c.args.self.now.recorder.disk c.reserve.new.self.disk c.told_bytes.new.recorder.disk c.enter.new.recorder.disk (ap (λ (x : Recorder g.row.D.Denot). x.disk) c.reserve.ensures.rest) (c.told_bytes.ensures.changes (c.enter.ensures.keeps h)) (c.enter.ensures.changes h)
 
 pub returns-clause-put : goal.returns-clause-put
 returns-clause-put g c h =
