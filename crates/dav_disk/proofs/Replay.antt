@@ -1,28 +1,42 @@
 -- The state of a file after the calls of a record.
-use Rattle.std.proofs.Common.{◌≡◌, inl, inr, ℕ, suc, ◌+◌, ◌-◌, ◌≤◌, min, Bool, true, false, List, [], ◌∷◌, ◌++◌, length, take, drop, if◌then◌else◌, ◌==◌, refl, sym, ◌∙◌, ap, subst, arith}
-use Rattle.std.proofs.lemmas.Bool.{cases_lt}
+use Rattle.std.proofs.Common.{◌≡◌, inl, inr, ℕ, suc, ◌+◌, ◌-◌, ◌≤◌, min, Bool, true, false, ◌&&◌, leb, List, [], ◌∷◌, ◌++◌, length, take, drop, if◌then◌else◌, ◌==◌, refl, sym, ◌∙◌, ap, subst, arith}
+use Rattle.std.proofs.lemmas.Bool.{cases_lt, and_parts}
+use Rattle.std.proofs.lemmas.Bool.Decides.{nat_tests}
 use Rattle.std.proofs.lemmas.List.{length-take, length-drop, take_all, take-append-drop}
 use Rattle.std.specs.Prelude.{Result, Ok, Err, is_ok, IfOk, OnOk, MatchResult}
-use Rattle.dav_disk.specs.Disk.{Doubt, IsOutcome, settled, overwritten, Passes, OthersStay, AllStay}
+use Rattle.dav_disk.specs.Disk.{Doubt, IsOutcome, settled, after_write, touched_by_write, with_change, overwritten, Passes, OthersStay, AllStay}
 use Rattle.dav_disk.specs.Record.{FileState}
-use Rattle.dav_disk.specs.Events.{Event, measured, gave, wrote, shortened, flushed, file_of, after_event, state_of, seen_of, past_of, IsSound, IsSoundNow, Agrees, IsHonest}
+use Rattle.dav_disk.specs.Events.{Event, measured, gave, wrote, shortened, flushed, file_of, is_taken, after_event, state_of, seen_of, past_of, IsSound, IsSoundNow, Agrees, IsHonest}
 use Rattle.dav_disk.proofs.Outcomes.{settled_outcome}
 use Rattle.dav_disk.proofs.Recording.{file_on, file_is, file_off, in_range, over_length, outcome_of_write, outcome_stays, outcome_of_cut, outcome_stays_cut}
+
+taken_parts : (at n size : ℕ) → is_taken at n size ≡ true → (at ≤ size) × (at + n ≤ 18446744073709551615)
+taken_parts at n size is = let p = and_parts (leb at size) (leb (at + n) 18446744073709551615) is in let a = p.0 in let b = p.1 in (grind (arith, nat_tests), grind (arith, nat_tests))
+
+taken_in : (at n size : ℕ) → at ≤ size → at + n ≤ 18446744073709551615 → is_taken at n size ≡ true
+taken_in at n size begins ends = grind (arith, nat_tests)
+
+-- a file that a write left as it was is an outcome of it, also of one that ends past the greatest u64
+stays_either : (within : Bool) (s : FileState) (at n : ℕ) → IsOutcome s.doubt s.seen → IsOutcome (if within then with_change (touched_by_write at n (length s.seen)) (at + n) s.doubt else s.doubt) s.seen
+stays_either true s at n outcome = outcome_stays s.seen s.doubt at n s.seen outcome refl
+stays_either false s at n outcome = outcome
+
+sound_write : (taken : Bool) (at : ℕ) (bytes : List ℕ) (s : FileState) → (taken ≡ true → is_taken at (length bytes) (length s.seen) ≡ true) → IsSound s
+    → IsSound (record { seen = if taken then overwritten s.seen at bytes else s.seen; doubt = after_write at (length bytes) (length s.seen) s.doubt })
+sound_write true at bytes s is sound =
+    let parts = taken_parts at (length bytes) (length s.seen) (is refl) in
+    record {
+      reads = subst (λ (d : Doubt). IsOutcome d (overwritten s.seen at bytes)) (sym (in_range at (length bytes) (length s.seen) s.doubt parts.1))
+          (outcome_of_write s.seen s.doubt at bytes (overwritten s.seen at bytes) sound.reads parts.0 refl);
+      fits = omega (arith, over_length s.seen bytes at parts.0, parts.1, sound.fits);
+    }
+sound_write false at bytes s is sound = record { reads = stays_either (leb (at + length bytes) 18446744073709551615) s at (length bytes) sound.reads; fits = sound.fits }
 
 -- what a call makes of a sound file is one
 sound_event : (e : Event) (s : FileState) → Agrees e s.seen → IsSound s → IsSound (after_event e s)
 sound_event (measured file went size) s agrees sound = sound
 sound_event (gave file at room went bytes) s agrees sound = sound
-sound_event (wrote file at true bytes) s agrees sound = record {
-  reads = subst (λ (d : Doubt). IsOutcome d (overwritten s.seen at bytes)) (sym (in_range at (length bytes) (length s.seen) s.doubt (omega (arith, agrees.1))))
-      (outcome_of_write s.seen s.doubt at bytes (overwritten s.seen at bytes) sound.reads agrees.0 refl);
-  fits = omega (arith, over_length s.seen bytes at agrees.0, agrees.1, sound.fits);
-}
-sound_event (wrote file at false bytes) s agrees sound = record {
-  reads = subst (λ (d : Doubt). IsOutcome d s.seen) (sym (in_range at (length bytes) (length s.seen) s.doubt (omega (arith, agrees.1))))
-      (outcome_stays s.seen s.doubt at (length bytes) s.seen sound.reads refl);
-  fits = sound.fits;
-}
+sound_event (wrote file at went bytes) s agrees sound = sound_write (went && is_taken at (length bytes) (length s.seen)) at bytes s (λ is. (and_parts went (is_taken at (length bytes) (length s.seen)) is).1) sound
 sound_event (shortened file len true) s agrees sound = record {
   reads = outcome_of_cut s.seen s.doubt len (take len s.seen) sound.reads refl;
   fits = omega (arith, length-take len s.seen, sound.fits);
@@ -90,8 +104,11 @@ module _ (start : ℕ → FileState) where
   pub honest_before : (e : Event) (history new : List Event) → new ≡ e ∷ history → IsHonest start new → Agrees e (seen_of start history (file_of e)) × IsHonest start history
   honest_before e history new is honest = subst (IsHonest start) is honest
 
-  pub written_with : (file at : ℕ) (bytes : List ℕ) (history new : List Event) → new ≡ wrote file at true bytes ∷ history → seen_of start new file ≡ overwritten (seen_of start history file) at bytes
-  written_with file at bytes history new is = ap (λ (l : List Event). seen_of start l file) is ∙ ap (λ (s : FileState). s.seen) (state_on (wrote file at true bytes) history)
+  pub written_with : (file at : ℕ) (bytes : List ℕ) (history new : List Event) → new ≡ wrote file at true bytes ∷ history → at ≤ length (seen_of start history file) → at + length bytes ≤ 18446744073709551615
+      → seen_of start new file ≡ overwritten (seen_of start history file) at bytes
+  written_with file at bytes history new is begins ends =
+      ap (λ (l : List Event). seen_of start l file) is ∙ ap (λ (s : FileState). s.seen) (state_on (wrote file at true bytes) history)
+      ∙ ap (λ (b : Bool). if b then overwritten (seen_of start history file) at bytes else seen_of start history file) (taken_in at (length bytes) (length (seen_of start history file)) begins ends)
 
   pub cut_with : (file len : ℕ) (history new : List Event) → new ≡ shortened file len true ∷ history → seen_of start new file ≡ take len (seen_of start history file)
   cut_with file len history new is = ap (λ (l : List Event). seen_of start l file) is ∙ ap (λ (s : FileState). s.seen) (state_on (shortened file len true) history)

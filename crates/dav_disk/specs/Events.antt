@@ -1,5 +1,5 @@
 -- The device calls on a folder of numbered files with their answers, and what they make of what the files held.
-use Rattle.std.specs.Prelude.{◌≡◌, ℕ, ◌+◌, ◌-◌, ◌<◌, ◌≤◌, Bool, true, if◌then◌else◌, ◌==◌, List, [], ◌∷◌, length, take, drop}
+use Rattle.std.specs.Prelude.{◌≡◌, ℕ, ◌+◌, ◌-◌, ◌<◌, Bool, true, ◌&&◌, if◌then◌else◌, ◌==◌, leb, List, [], ◌∷◌, length, take, drop}
 use Rattle.dav_disk.specs.Disk.{Doubt, IsOutcome, settled, after_write, after_cut, overwritten}
 use Rattle.dav_disk.specs.Record.{FileState}
 
@@ -19,12 +19,16 @@ file_of (wrote file at went bytes) = file
 file_of (shortened file len went) = file
 file_of (flushed file went) = file
 
--- What a call makes of its file. One that failed leaves what a read gives; a write and a cut that failed leave in doubt
--- what they might have touched, and a sync that failed settles nothing.
+-- the model takes a write of n bytes that begins within the file and ends below 2^64
+abbrev pub is_taken : ℕ → ℕ → ℕ → Bool
+is_taken at n size = leb at size && leb (at + n) 18446744073709551615
+
+-- What a call makes of its file. One that failed leaves what a read gives, and so does a write that the model does not
+-- take; a write and a cut that failed leave in doubt what they might have touched, and a sync that failed settles nothing.
 abbrev pub after_event : Event → FileState → FileState
 after_event (measured file went size) s = s
 after_event (gave file at room went bytes) s = s
-after_event (wrote file at went bytes) s = record { seen = if went then overwritten s.seen at bytes else s.seen; doubt = after_write at (length bytes) (length s.seen) s.doubt }
+after_event (wrote file at went bytes) s = record { seen = if went && is_taken at (length bytes) (length s.seen) then overwritten s.seen at bytes else s.seen; doubt = after_write at (length bytes) (length s.seen) s.doubt }
 after_event (shortened file len went) s = record { seen = if went then take len s.seen else s.seen; doubt = after_cut len s.doubt }
 after_event (flushed file went) s = record { seen = s.seen; doubt = if went then settled s.seen else s.doubt }
 
@@ -45,16 +49,16 @@ pub record IsSound (s : FileState) : Type 0 where
   pub reads : IsOutcome s.doubt s.seen
   pub fits : length s.seen < 18446744073709551616
 
--- The call and its answer are the model's, where a read gives these bytes of its file. A size and a read that went gave
--- what stands there. A write begins within the file and ends below 2^64. A write, a cut and a sync are taken at their word.
+-- The answer is the model's, where a read gives these bytes of the file: a size and a read that went gave what stands
+-- there. A write, a cut and a sync are taken at their word.
 abbrev pub Agrees : Event → List ℕ → Type 0
 Agrees (measured file went size) seen = went ≡ true → size ≡ length seen
 Agrees (gave file at room went bytes) seen = went ≡ true → bytes ≡ take room (drop at seen)
-Agrees (wrote file at went bytes) seen = (at ≤ length seen) × (at + length bytes < 18446744073709551616)
+Agrees (wrote file at went bytes) seen = Unit {0}
 Agrees (shortened file len went) seen = Unit {0}
 Agrees (flushed file went) seen = Unit {0}
 
--- Each call and its answer so far are those of a folder whose files held this at the start, each file by itself.
+-- Each answer so far is that of a folder whose files held this at the start.
 abbrev pub IsHonest : (ℕ → FileState) → List Event → Type 0
 IsHonest start [] = (f : ℕ) → IsSound (start f)
 IsHonest start (event ∷ earlier) = Agrees event (seen_of start earlier (file_of event)) × IsHonest start earlier

@@ -1,4 +1,4 @@
-ghost use Rattle.std.specs.Prelude.{◌≡◌, ◌↔◌, ℕ, ◌+◌, ◌<◌, ◌≤◌, Bool, true, false, List, [], ◌∷◌, length, take, drop};
+ghost use Rattle.std.specs.Prelude.{◌≡◌, ◌↔◌, ℕ, Bool, true, false, List, [], ◌∷◌, length, take, drop};
 ghost use Rattle.dav_disk.specs.Record.{FileState};
 ghost use Rattle.dav_disk.specs.Events.{Event, measured, gave, wrote, shortened, flushed, seen_of, IsSound, IsHonest};
 
@@ -24,20 +24,19 @@ pub fn read_is_compared()
         → IsHonest start (gave file at room false bytes ∷ history) ↔ IsHonest start history }
 {}
 
-/// A write keeps honesty whether it went or failed, exactly where it begins within the file and ends below 2^64.
+/// A write keeps honesty, whether it went or failed.
 pub fn write_is_taken()
     ensures { (start : ℕ → FileState) (history : List Event) (file at : ℕ) (went : Bool) (bytes : List ℕ)
-        → IsHonest start (wrote file at went bytes ∷ history)
-        ↔ ((at ≤ length (seen_of start history file)) × (at + length bytes < 18446744073709551616) × IsHonest start history) }
+        → IsHonest start (wrote file at went bytes ∷ history) ↔ IsHonest start history }
 {}
 
-/// A cut keeps honesty, whether it went or failed.
+/// So does a cut.
 pub fn cut_is_taken()
     ensures { (start : ℕ → FileState) (history : List Event) (file len : ℕ) (went : Bool)
         → IsHonest start (shortened file len went ∷ history) ↔ IsHonest start history }
 {}
 
-/// So does a sync.
+/// And a sync.
 pub fn sync_is_taken()
     ensures { (start : ℕ → FileState) (history : List Event) (file : ℕ) (went : Bool)
         → IsHonest start (flushed file went ∷ history) ↔ IsHonest start history }

@@ -37,6 +37,7 @@ impl<C: Calls, S: Start> Modelled<C, S> {
     pub fn new(calls: C, _start: S) -> Modelled<C, S>
         requires { C.Calls.history calls ≡ [] }
         ensures calls { calls_of result ≡ calls }
+        ensures faults { result.faults ≡ 0 }
     {
         Modelled {
             calls,

@@ -21,7 +21,8 @@ pub type FolderDisk<'a, R, S> = Modelled<FolderCalls<'a, R>, S>;
 impl<'a, R: Files + AllocGlobal> FolderCalls<'a, R> {
     /// The folder, which was asked nothing yet.
     pub fn new(rt: &'a R, folder: &'a str) -> Self
-        ensures { result.log.events ≡ [] }
+        ensures log { result.log.events ≡ [] }
+        ensures folder { result.folder.now ≡ folder.now }
     {
         FolderCalls {
             rt,

@@ -1,6 +1,4 @@
 use Rattle.std.proofs.Common.{arith}
-use Rattle.std.specs.Prelude.{is_ok}
-use Rattle.dav_disk.specs.Events.{wrote}
 use Rattle.dav_disk.proofs.Replay.{recorded_with, sound_now}
 use Rattle.dav_disk.proofs.modelled.ModelledDisk.write_at.Goals as goal
 
@@ -8,5 +6,5 @@ pub invariant_of-self-2 : goal.invariant_of-self-2
 invariant_of-self-2 g c =
     let history = g.C.Calls.history c.args.self.now.calls in
     let new = g.C.Calls.history c.write_at-answer.new.self in
-    let recorded = recorded_with (wrote c.args.file c.args.at (is_ok c.write_at-answer.result) c.args.bytes.now) history new c.args.self.now.count c.write_at-answer.ensures c.args.self.now.recorded in
+    let recorded = recorded_with _ history new c.args.self.now.count c.write_at-answer.ensures c.args.self.now.recorded in
     record { recorded = recorded; counted = omega (arith, recorded, c.args.self.now.recorded, c.args.self.now.counted, c.if-self.false); sound = sound_now g.S.Start.files new }
