@@ -1,7 +1,7 @@
 ghost use Rattle.std.specs.Prelude.{◌≡◌, ◌≢◌, ◌+◌, [], take, OnOk, IfOk, IfErr};
 ghost use Rattle.sha2.specs.Sha256.{sha256};
 ghost use Rattle.dav_disk.specs.Disk.{Touches, OthersStay, AllStay, settled};
-ghost use Rattle.dav_store.specs.Body.{id_of, IsDamage};
+ghost use Rattle.dav_store.specs.Body.{IsDamage};
 ghost use Rattle.dav_store.specs.Cause.{IsCaused, OnlyDisk};
 ghost use Rattle.dav_store.specs.declared.fault.StoreFault.TheVariants.{Memory as MemoryFault};
 
@@ -24,14 +24,14 @@ impl Bodies {
     }
 
     /// Puts these bytes into a file, in place of what it holds. After `Ok` each stop leaves them, until that file is
-    /// changed again. Takes no memory, and answers `Disk` alone.
+    /// changed again. Takes no memory, and answers `Disk` alone. The body's name is `BodyId::of`, and the caller's to make:
+    /// it takes the bytes' SHA-256, which is taken once.
     pub fn keep<D: Disk>(
         &mut self,
         disk: &mut D,
         file: u32,
         bytes: &[u8],
-    ) -> Result<BodyId, StoreFault>
-        ensures id { IfOk result (λ id. id ≡ id_of file bytes.now) }
+    ) -> Result<(), StoreFault>
         ensures kept { D.honest disk.new → OnOk result (D.past disk.new (D.moment disk.new) file ≡ settled bytes.now) }
         ensures seen { D.honest disk.new → OnOk result (D.seen disk.new file ≡ bytes.now) }
         ensures touches { D.honest disk.new → Touches (λ f. f ≡ file) (D.moment disk.old) (D.moment disk.new) (D.past disk.old) (D.past disk.new) }
@@ -44,7 +44,7 @@ impl Bodies {
         disk.cut(file, 0)?;
         disk.write_at(file, 0, bytes)?;
         disk.sync(file)?;
-        Ok(BodyId::of(file, bytes))
+        Ok(())
     }
 
     /// The bytes of a body: the first `len` of its file, or fewer where the file is shorter. Answers `Damaged` where

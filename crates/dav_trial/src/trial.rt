@@ -124,7 +124,9 @@ fn add_rows<R: AllocGlobal + Print, D: Disk>(
     let mut bodies = Bodies::new(alloc);
     for number in first..u64::MAX {
         let bytes = body_of(alloc, number)?;
-        let id = bodies.keep(disk, file_of(number), bytes.as_slice())?;
+        let file = file_of(number);
+        let id = BodyId::of(file, bytes.as_slice());
+        bodies.keep(disk, file, bytes.as_slice())?;
         journal.append(disk, row_of(number, &id).as_slice())?;
         println!(rt; "{number}")?;
     }
