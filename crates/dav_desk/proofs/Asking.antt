@@ -17,8 +17,8 @@ use Rattle.dav_deeds.specs.declared.deed.Step.{Step}
 use Rattle.dav_deeds.specs.declared.fault.DeskFault.{DeskFault}
 use Rattle.dav_deeds.specs.declared.fault.DeskFault.TheVariants.{Disk, NotACache, Damaged, OtherServer, Queued, NoSuchJob, Crowded, Limit, Memory}
 use Rattle.dav_deeds.specs.declared.plan.Planned.{Planned}
-use Rattle.dav_cache.specs.Opening.{IsFetchFault}
-use Rattle.dav_cache.proofs.LiveLemmas.{stamped}
+use Rattle.dav_recorder.specs.Opening.{IsFetchFault}
+use Rattle.dav_recorder.proofs.LiveLemmas.{stamped}
 use Rattle.dav_desk.specs.declared.desk.Desk.{Desk}
 use Rattle.dav_desk.specs.Ends.{IsEnd, IsEndIfAny}
 use Rattle.dav_desk.specs.Ended.{IsAsked}

@@ -26,10 +26,10 @@ use Rattle.std.specs.List.{Contains}
 use Rattle.dav_deeds.specs.declared.fault.DeskFault.{DeskFault}
 use Rattle.dav_deeds.specs.declared.fault.DeskFault.TheVariants.{Disk, Memory}
 use Rattle.dav_deeds.specs.declared.plan.Planned.{Planned}
-use Rattle.dav_cache.specs.Planned.{kept_table}
-use Rattle.dav_cache.specs.Survives.{IsLive, IsLeft}
-use Rattle.dav_cache.specs.declared.recorder.Recorder.{Recorder}
-use Rattle.dav_cache.proofs.LiveLemmas.{stamped}
+use Rattle.dav_recorder.specs.Planned.{kept_table}
+use Rattle.dav_recorder.specs.Survives.{IsLive, IsLeft}
+use Rattle.dav_recorder.specs.declared.recorder.Recorder.{Recorder}
+use Rattle.dav_recorder.proofs.LiveLemmas.{stamped}
 use Rattle.dav_desk.specs.declared.desk.Desk.{Desk}
 use Rattle.dav_desk.specs.Ended.{IsAsked}
 use Rattle.dav_desk.specs.Entry.{bytes_in, IsEntry, IsMissing}

@@ -19,9 +19,9 @@ use Rattle.dav_deeds.specs.declared.ask.Done.{Done}
 use Rattle.dav_deeds.specs.declared.deed.Deed.{Deed}
 use Rattle.dav_deeds.specs.declared.deed.Deed.TheVariants.{Store, Forget, Settle}
 use Rattle.dav_deeds.specs.declared.fault.DeskFault.{DeskFault}
-use Rattle.dav_cache.specs.Files.{ChangesOnly, AreEmpty, IsStored}
-use Rattle.dav_cache.specs.Stands.{IsFile, IsWritten}
-use Rattle.dav_cache.proofs.Filing.{changes_wider, changes_behind}
+use Rattle.dav_recorder.specs.Files.{ChangesOnly, AreEmpty, IsStored}
+use Rattle.dav_recorder.specs.Stands.{IsFile, IsWritten}
+use Rattle.dav_recorder.proofs.Filing.{changes_wider, changes_behind}
 use Rattle.dav_desk.specs.Changed.{fresh_by, freed_by}
 use Rattle.dav_desk.specs.Entry.{bytes_in, file_in}
 use Rattle.dav_desk.proofs.Entering.{text_wide}

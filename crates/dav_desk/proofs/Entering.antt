@@ -29,11 +29,11 @@ use Rattle.dav_deeds.specs.declared.fault.DeskFault.{DeskFault}
 use Rattle.dav_deeds.specs.declared.plan.Planned.{Planned}
 use Rattle.dav_deeds.proofs.Released.{released_begin}
 use Rattle.dav_deeds.proofs.Sounds.{is_record}
-use Rattle.dav_cache.specs.Planned.{HasNew, IsPlanned, IsQuiet}
-use Rattle.dav_cache.specs.Recovers.{IsConsistent}
-use Rattle.dav_cache.specs.Survives.{SurviveAll, IsLive, IsLeft, with_under}
-use Rattle.dav_cache.specs.declared.recorder.Recorder.{Recorder}
-use Rattle.dav_cache.proofs.PlanLemmas.{step_planned, step_quiet}
+use Rattle.dav_recorder.specs.Planned.{HasNew, IsPlanned, IsQuiet}
+use Rattle.dav_recorder.specs.Recovers.{IsConsistent}
+use Rattle.dav_recorder.specs.Survives.{SurviveAll, IsLive, IsLeft, with_under}
+use Rattle.dav_recorder.specs.declared.recorder.Recorder.{Recorder}
+use Rattle.dav_recorder.proofs.PlanLemmas.{step_planned, step_quiet}
 use Rattle.dav_desk.specs.Entry.{bytes_in, file_in, IsEntry}
 use Rattle.dav_desk.specs.Working.{AreGiven}
 use Rattle.dav_desk.proofs.Telling.{not_idle}

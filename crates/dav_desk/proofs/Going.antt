@@ -19,9 +19,9 @@ use Rattle.dav_deeds.specs.declared.deed.Mark.TheVariants as marks
 use Rattle.dav_deeds.specs.declared.deed.Step.{Step}
 use Rattle.dav_deeds.specs.declared.fault.DeskFault.{DeskFault}
 use Rattle.dav_deeds.proofs.Taking.{table_push}
-use Rattle.dav_cache.specs.Survives.{IsLive}
-use Rattle.dav_cache.specs.declared.recorder.Recorder.{Recorder}
-use Rattle.dav_cache.proofs.LiveLemmas.{stamped}
+use Rattle.dav_recorder.specs.Survives.{IsLive}
+use Rattle.dav_recorder.specs.declared.recorder.Recorder.{Recorder}
+use Rattle.dav_recorder.proofs.LiveLemmas.{stamped}
 use Rattle.dav_desk.specs.declared.desk.Desk.{Desk}
 use Rattle.dav_desk.specs.Ends.{IsEnd, IsEndIfAny}
 use Rattle.dav_desk.specs.Room.{HasRoom}

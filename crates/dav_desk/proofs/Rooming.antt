@@ -14,7 +14,7 @@ use Rattle.dav_deeds.specs.declared.answer.Told.TheVariants.{Closed, Forgot, Too
 use Rattle.dav_deeds.specs.declared.deed.Deed.{Deed}
 use Rattle.dav_deeds.specs.declared.deed.Step.{Step}
 use Rattle.dav_deeds.proofs.Sparing.{settled_frees, end_flies, end_told}
-use Rattle.dav_cache.specs.declared.recorder.Recorder.{Recorder}
+use Rattle.dav_recorder.specs.declared.recorder.Recorder.{Recorder}
 use Rattle.dav_desk.specs.declared.desk.Desk.{Desk}
 use Rattle.dav_desk.specs.Room.{slots, HasSlotOf, HasRoom, IsHeldFor}
 

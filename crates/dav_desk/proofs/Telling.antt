@@ -28,7 +28,7 @@ use Rattle.dav_deeds.proofs.Bodies.{OfBody, EachBody, each_body}
 use Rattle.dav_deeds.proofs.Flying.{every_at}
 use Rattle.dav_deeds.proofs.Taking.{taken_of}
 use Rattle.dav_deeds.proofs.Resting.{rest_bodies}
-use Rattle.dav_cache.specs.Planned.{kept_table}
+use Rattle.dav_recorder.specs.Planned.{kept_table}
 use Rattle.dav_desk.specs.Verdict.{unless_idle}
 
 -- only a take tells a job

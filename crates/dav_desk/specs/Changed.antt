@@ -5,8 +5,8 @@ use Rattle.dav_deeds.specs.DeskTable.{DeskTable}
 use Rattle.dav_deeds.specs.Effects.{released_of}
 use Rattle.dav_deeds.specs.Legal.{deed_of, new_body}
 use Rattle.dav_deeds.specs.declared.ask.Ask.{Ask}
-use Rattle.dav_cache.specs.Files.{ChangesOnly, AreEmpty, IsStored}
-use Rattle.dav_cache.specs.Stands.{IsWritten}
+use Rattle.dav_recorder.specs.Files.{ChangesOnly, AreEmpty, IsStored}
+use Rattle.dav_recorder.specs.Stands.{IsWritten}
 use Rattle.dav_desk.specs.Entry.{bytes_in, file_in}
 use Rattle.dav_desk.specs.declared.desk.Desk.{Desk}
 

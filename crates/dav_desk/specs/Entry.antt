@@ -14,8 +14,8 @@ use Rattle.dav_deeds.specs.declared.ask.Ask.{Ask}
 use Rattle.dav_deeds.specs.declared.ask.Ask.TheVariants.{Store, Forget, Take, Settle, Stop}
 use Rattle.dav_deeds.specs.declared.deed.Step.{Step}
 use Rattle.dav_deeds.specs.declared.fault.DeskFault.{DeskFault}
-use Rattle.dav_cache.specs.Opening.{IsFetchFault}
-use Rattle.dav_cache.specs.Planned.{HasNew}
+use Rattle.dav_recorder.specs.Opening.{IsFetchFault}
+use Rattle.dav_recorder.specs.Planned.{HasNew}
 
 -- the bytes that are to be stored, if any are
 abbrev pub bytes_in : Ask → List ℕ

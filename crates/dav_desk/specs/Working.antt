@@ -11,7 +11,7 @@ use Rattle.dav_deeds.specs.declared.answer.Answer.{Answer}
 use Rattle.dav_deeds.specs.declared.answer.Answer.TheVariants as answers
 use Rattle.dav_deeds.specs.declared.ask.Ask.{Ask}
 use Rattle.dav_deeds.specs.declared.ask.Ask.TheVariants.{Store, Forget, Take, Settle, Stop}
-use Rattle.dav_cache.specs.Survives.{IsLive, IsLeft}
+use Rattle.dav_recorder.specs.Survives.{IsLive, IsLeft}
 use Rattle.dav_desk.specs.declared.desk.Desk.{Desk}
 use Rattle.dav_desk.specs.Ends.{IsEndIfAny}
 use Rattle.dav_desk.specs.Room.{HasRoom}

@@ -12,20 +12,20 @@ ghost use Rattle.dav_deeds.specs.declared.answer.Fated.{Fated};
 ghost use Rattle.dav_deeds.specs.declared.answer.Told.TheVariants.{Settled};
 ghost use Rattle.dav_deeds.specs.declared.fault.DeskFault.TheVariants.{Memory as MemoryFault};
 ghost use Rattle.dav_deeds.specs.Sound.{IsSound};
-ghost use Rattle.dav_cache.specs.Stands.{EachImage};
-ghost use Rattle.dav_cache.specs.Recovers.{Recovers, AllRecover};
-ghost use Rattle.dav_cache.specs.Opening.{IsIndexOf, IsStartFault};
+ghost use Rattle.dav_recorder.specs.Stands.{EachImage};
+ghost use Rattle.dav_recorder.specs.Recovers.{Recovers, AllRecover};
+ghost use Rattle.dav_recorder.specs.Opening.{IsIndexOf, IsStartFault};
 ghost use Rattle.dav_deeds.specs.Change.{IsPlan};
 ghost use Rattle.dav_desk.specs.Verdict.{with_bytes as with_bytes_lem};
 ghost use Rattle.dav_desk.specs.Ends.{IsEnd};
 ghost use Rattle.dav_desk.specs.Room.{slots as slots_lem};
 
 use crate::entry::{bytes_of, enter, told_bytes};
-use dav_cache::Recorder;
 use dav_deeds::{
     Answer, Ask, DeskFault, DeskTable, Made, Planned, Spare, Step, Told, Trace, Who, kept_spare,
 };
 use dav_disk::Disk;
+use dav_recorder::Recorder;
 use dav_text::Blob;
 use std::alloc::Global;
 
@@ -83,7 +83,7 @@ pub struct Desk<D> {
 
 impl<D: Disk> Desk<D> {
     ghost use Rattle.dav_desk.specs.Ended.{IsAsked};
-    ghost use Rattle.dav_cache.specs.Files.{ChangesOnly};
+    ghost use Rattle.dav_recorder.specs.Files.{ChangesOnly};
     ghost use Rattle.dav_desk.specs.Changed.{ChangesAsked, IsPut};
     ghost use Rattle.dav_desk.specs.Room.{IsHeldFor};
     ghost use Rattle.dav_desk.specs.Working.{IsReadied, IsWorking, IsStopped, AreGiven, HasBytes, HasSum};

@@ -10,15 +10,15 @@ ghost use Rattle.dav_deeds.specs.Legal.{new_body, table_after};
 ghost use Rattle.dav_deeds.specs.declared.answer.Flight.{Flight};
 ghost use Rattle.dav_deeds.specs.declared.answer.Told.TheVariants.{Took};
 ghost use Rattle.dav_deeds.specs.declared.fault.DeskFault.TheVariants.{Disk as DiskFault, Memory as MemoryFault};
-ghost use Rattle.dav_cache.specs.Files.{ChangesOnly, AreEmpty, IsStored};
-ghost use Rattle.dav_cache.specs.Planned.{kept_table};
-ghost use Rattle.dav_cache.specs.Stands.{IsWritten};
-ghost use Rattle.dav_cache.specs.Survives.{IsLive, IsLeft};
+ghost use Rattle.dav_recorder.specs.Files.{ChangesOnly, AreEmpty, IsStored};
+ghost use Rattle.dav_recorder.specs.Planned.{kept_table};
+ghost use Rattle.dav_recorder.specs.Stands.{IsWritten};
+ghost use Rattle.dav_recorder.specs.Survives.{IsLive, IsLeft};
 ghost use Rattle.dav_desk.specs.Entry.{bytes_in, file_in, IsEntry, IsMissing};
 
-use dav_cache::Recorder;
 use dav_deeds::{Ask, Deed, DeskFault, Step, Told};
 use dav_disk::Disk;
+use dav_recorder::Recorder;
 use dav_text::Blob;
 use std::alloc::Global;
 

@@ -7,7 +7,7 @@ ghost use Rattle.dav_deeds.specs.DeskTable.{DeskTable};
 ghost use Rattle.dav_deeds.specs.Effects.{after, released_of};
 ghost use Rattle.dav_deeds.specs.Legal.{IsDeed, new_body};
 ghost use Rattle.dav_deeds.specs.Sound.{IsSound};
-ghost use Rattle.dav_cache.specs.Stands.{IsWritten};
+ghost use Rattle.dav_recorder.specs.Stands.{IsWritten};
 ghost use Rattle.dav_desk.specs.Entry.{file_in};
 
 /// A law: a body that the table names before a deed and after it is in none of the files that the deed changes.

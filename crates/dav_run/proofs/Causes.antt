@@ -30,7 +30,7 @@ use Rattle.dav_deeds.specs.declared.deed.Step.{Step}
 use Rattle.dav_deeds.specs.declared.fault.DeskFault.{DeskFault}
 use Rattle.dav_deeds.specs.declared.fault.DeskFault.TheVariants as faults
 use Rattle.dav_deeds.proofs.Paths.{not_back}
-use Rattle.dav_cache.specs.Opening.{IsFetchFault, IsStartFault, IsIndexOf}
+use Rattle.dav_recorder.specs.Opening.{IsFetchFault, IsStartFault, IsIndexOf}
 use Rattle.dav_desk.specs.Ended.{HasCause, HasDied}
 use Rattle.dav_desk.specs.Ends.{IsEnd}
 use Rattle.dav_desk.specs.Verdict.{Verdict, Went, Stopped, Starved, with_bytes, result_by, table_by}

@@ -7,7 +7,7 @@ use Rattle.dav_machine.specs.Machine.{Run, run_with, prepend, give}
 use Rattle.dav_text.specs.Path.{PathParts}
 use Rattle.dav_store.specs.Body.{id_of}
 use Rattle.dav_store.specs.declared.body_id.BodyId.{BodyId}
-use Rattle.dav_cache.specs.Survives.{with_under}
+use Rattle.dav_recorder.specs.Survives.{with_under}
 use Rattle.dav_deeds.specs.DeskTable.{DeskTable}
 use Rattle.dav_deeds.specs.Effects.{told_of, mark_of, effect_unless}
 use Rattle.dav_deeds.specs.Legal.{deed_of, body_unless}

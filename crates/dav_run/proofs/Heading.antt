@@ -24,9 +24,9 @@ use Rattle.dav_deeds.proofs.Restart.{changed_reopens}
 use Rattle.dav_deeds.proofs.Resting.{rest_bodies}
 use Rattle.dav_deeds.proofs.Sounds.{steps_sound}
 use Rattle.dav_deeds.proofs.Stories.{legal_front}
-use Rattle.dav_cache.specs.Recovers.{Recovers, AllRecover, Replays}
-use Rattle.dav_cache.specs.Stands.{IsGiven, IsIn, EachImage}
-use Rattle.dav_cache.specs.Survives.{IsFront, HasUnder, SurviveAll, with_under}
+use Rattle.dav_recorder.specs.Recovers.{Recovers, AllRecover, Replays}
+use Rattle.dav_recorder.specs.Stands.{IsGiven, IsIn, EachImage}
+use Rattle.dav_recorder.specs.Survives.{IsFront, HasUnder, SurviveAll, with_under}
 use Rattle.dav_desk.specs.Ended.{HasCause}
 use Rattle.dav_desk.specs.Verdict.{Verdict, Went, Stopped, Starved, result_by, table_by}
 use Rattle.dav_desk.specs.Working.{AreGiven}

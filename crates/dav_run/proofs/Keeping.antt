@@ -18,7 +18,7 @@ use Rattle.dav_deeds.specs.declared.deed.Step.{Step}
 use Rattle.dav_deeds.specs.declared.fault.DeskFault.{DeskFault}
 use Rattle.dav_deeds.specs.declared.fault.DeskFault.TheVariants as desk_faults
 use Rattle.dav_deeds.proofs.Stories.{kept}
-use Rattle.dav_cache.specs.Survives.{with_under}
+use Rattle.dav_recorder.specs.Survives.{with_under}
 use Rattle.dav_upload.specs.Asking.{Asked, table_through}
 use Rattle.dav_upload.specs.Desks.{DiskView}
 use Rattle.dav_upload.specs.Resting.{IsResting}

@@ -3,8 +3,8 @@ use Rattle.std.specs.Prelude.{◌≡◌, ◌⊎◌, ◌≤◌, ◌<◌, ℕ, Lis
 use Rattle.dav_disk.specs.Disk.{Doubt, MightLeave}
 use Rattle.dav_edge.specs.Device.{Happened, DeviceLog, Grew, given as bytes_given}
 use Rattle.dav_text.specs.Path.{PathParts}
-use Rattle.dav_cache.specs.Opening.{IsFetchFault, IsStartFault, IsIndexOf}
-use Rattle.dav_cache.specs.Survives.{with_under}
+use Rattle.dav_recorder.specs.Opening.{IsFetchFault, IsStartFault, IsIndexOf}
+use Rattle.dav_recorder.specs.Survives.{with_under}
 use Rattle.dav_deeds.specs.DeskTable.{started}
 use Rattle.dav_deeds.specs.declared.answer.Flight.{Flight}
 use Rattle.dav_deeds.specs.declared.deed.Step.{Step}

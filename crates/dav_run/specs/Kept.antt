@@ -7,7 +7,7 @@ use Rattle.dav_edge.specs.Device.{Happened, DeviceLog, Grew, given, taken, is_fa
 use Rattle.dav_edge.specs.Connections.{connections_of}
 use Rattle.dav_text.specs.Path.{PathParts}
 use Rattle.dav_store.specs.Body.{id_of}
-use Rattle.dav_cache.specs.Survives.{with_under}
+use Rattle.dav_recorder.specs.Survives.{with_under}
 use Rattle.dav_deeds.specs.DeskTable.{DeskTable}
 use Rattle.dav_deeds.specs.Fate.{IsKept}
 use Rattle.dav_deeds.specs.declared.ask.Ask.{Ask}

@@ -1,8 +1,8 @@
 -- How the desk of a run starts, and why there is none.
 use Rattle.std.specs.Prelude.{◌≡◌, ◌≤◌, ◌<◌, ℕ, List, [], length, None}
-use Rattle.dav_cache.specs.Opening.{IsIndexOf, IsStartFault}
-use Rattle.dav_cache.specs.Recovers.{Recovers, AllRecover}
-use Rattle.dav_cache.specs.Stands.{EachImage}
+use Rattle.dav_recorder.specs.Opening.{IsIndexOf, IsStartFault}
+use Rattle.dav_recorder.specs.Recovers.{Recovers, AllRecover}
+use Rattle.dav_recorder.specs.Stands.{EachImage}
 use Rattle.dav_deeds.specs.DeskTable.{started}
 use Rattle.dav_deeds.specs.Sound.{IsSound}
 use Rattle.dav_deeds.specs.declared.fault.DeskFault.{DeskFault}

@@ -2,7 +2,7 @@ ghost use Rattle.std.specs.Prelude.{◌≡◌, ◌⊎◌, ◌<◌, ℕ, List, []
 ghost use Rattle.dav_machine.specs.Log.{Rose};
 ghost use Rattle.dav_machine.specs.Machine.{Does};
 ghost use Rattle.dav_text.specs.Path.{IsPath};
-ghost use Rattle.dav_cache.specs.Recovers.{AllRecover};
+ghost use Rattle.dav_recorder.specs.Recovers.{AllRecover};
 ghost use Rattle.dav_deeds.specs.declared.fault.DeskFault.{DeskFault as Fault};
 ghost use Rattle.dav_index.specs.declared.table.Table.{Table};
 ghost use Rattle.dav_uri.specs.Target.{BaseParts};

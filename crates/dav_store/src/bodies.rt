@@ -26,12 +26,7 @@ impl Bodies {
     /// Puts these bytes into a file, in place of what it holds. After `Ok` each stop leaves them, until that file is
     /// changed again. Takes no memory, and answers `Disk` alone. The body's name is `BodyId::of`, and the caller's to make:
     /// it takes the bytes' SHA-256, which is taken once.
-    pub fn keep<D: Disk>(
-        &mut self,
-        disk: &mut D,
-        file: u32,
-        bytes: &[u8],
-    ) -> Result<(), StoreFault>
+    pub fn keep<D: Disk>(&mut self, disk: &mut D, file: u32, bytes: &[u8]) -> Result<(), StoreFault>
         ensures kept { D.honest disk.new → OnOk result (D.past disk.new (D.moment disk.new) file ≡ settled bytes.now) }
         ensures seen { D.honest disk.new → OnOk result (D.seen disk.new file ≡ bytes.now) }
         ensures touches { D.honest disk.new → Touches (λ f. f ≡ file) (D.moment disk.old) (D.moment disk.new) (D.past disk.old) (D.past disk.new) }

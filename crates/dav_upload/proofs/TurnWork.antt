@@ -20,7 +20,7 @@ use Rattle.dav_deeds.specs.declared.ask.Who.TheVariants.{Uploader}
 use Rattle.dav_deeds.specs.declared.deed.Deed.{Deed}
 use Rattle.dav_deeds.specs.declared.deed.Step.{Step}
 use Rattle.dav_deeds.specs.declared.fault.DeskFault.{DeskFault}
-use Rattle.dav_cache.specs.Survives.{with_under}
+use Rattle.dav_recorder.specs.Survives.{with_under}
 use Rattle.dav_desk.specs.declared.desk.Desk.{Desk}
 use Rattle.dav_desk.specs.Verdict.{Verdict, Went, Stopped, Starved, step_of, steps_by, unless_idle, result_by, table_by}
 use Rattle.dav_desk.specs.Ended.{HasCause, HasDied, WasDead}

@@ -20,10 +20,10 @@ use Rattle.dav_deeds.specs.Legal.{Legal, table_after}
 use Rattle.dav_deeds.specs.Fate.{Fate, Queued, Sent, Lost, story, IsLostAs, IsKeptAs}
 use Rattle.dav_index.proofs.HeadLemmas.{head_found, none_found}
 use Rattle.dav_deeds.proofs.Stories.{kept, legal_front}
-use Rattle.dav_cache.specs.Stands.{IsIn}
-use Rattle.dav_cache.specs.Recovers.{Recovers}
-use Rattle.dav_cache.specs.Survives.{IsFront, HasUnder, Survives, SurviveAll, with_under}
-use Rattle.dav_cache.proofs.LiveLemmas.{survives_sooner}
+use Rattle.dav_recorder.specs.Stands.{IsIn}
+use Rattle.dav_recorder.specs.Recovers.{Recovers}
+use Rattle.dav_recorder.specs.Survives.{IsFront, HasUnder, Survives, SurviveAll, with_under}
+use Rattle.dav_recorder.proofs.LiveLemmas.{survives_sooner}
 use Rattle.dav_disk.specs.Disk.{Doubt, MightLeave}
 use Rattle.dav_upload.specs.Backs.{Backs}
 use Rattle.dav_upload.specs.Outlives.{HasKept, KeepsBytes, Outlives}

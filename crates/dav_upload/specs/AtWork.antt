@@ -4,7 +4,7 @@ use Rattle.dav_disk.specs.Disk.{MightLeave}
 use Rattle.dav_edge.specs.Device.{Happened, DeviceLog, Grew}
 use Rattle.dav_uri.specs.Target.{BaseParts}
 use Rattle.dav_deeds.specs.DeskTable.{DeskTable}
-use Rattle.dav_cache.specs.Survives.{with_under}
+use Rattle.dav_recorder.specs.Survives.{with_under}
 use Rattle.dav_desk.specs.declared.desk.Desk.{Desk}
 use Rattle.dav_upload.specs.declared.did.UploadFault.{UploadFault}
 use Rattle.dav_upload.specs.declared.did.UploadFault.TheVariants as faults

@@ -11,9 +11,9 @@ use Rattle.dav_deeds.specs.declared.deed.Step.{Step}
 use Rattle.dav_deeds.specs.DeskTable.{DeskTable, reopened}
 use Rattle.dav_deeds.specs.Legal.{table_after}
 use Rattle.dav_deeds.specs.Fate.{Fate, Queued, Sent, Lost, story, IsSentAt, IsLostAs}
-use Rattle.dav_cache.specs.Stands.{IsIn}
-use Rattle.dav_cache.specs.Recovers.{Recovers}
-use Rattle.dav_cache.specs.Survives.{IsFront, HasUnder}
+use Rattle.dav_recorder.specs.Stands.{IsIn}
+use Rattle.dav_recorder.specs.Recovers.{Recovers}
+use Rattle.dav_recorder.specs.Survives.{IsFront, HasUnder}
 use Rattle.dav_upload.specs.Backs.{HasPut, Backs}
 
 -- the step at this place settled the job that was taken with this very body, and until then the last request on the wire was

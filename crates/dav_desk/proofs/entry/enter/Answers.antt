@@ -1,11 +1,11 @@
 use Rattle.std.proofs.Common.{◌≡◌, ◌≢◌, inr, ℕ, [], Option, sym, subst}
-use Rattle.dav_cache.specs.Planned.{IsPlanned}
+use Rattle.dav_recorder.specs.Planned.{IsPlanned}
 use Rattle.dav_deeds.specs.Legal.{new_body, table_after}
 use Rattle.dav_desk.proofs.Entering.{entry_planned, entry_quiet, row_empty, row_full}
 use Rattle.std.specs.List.{Contains}
-use Rattle.dav_cache.specs.Files.{ChangesOnly, IsStored}
-use Rattle.dav_cache.specs.Stands.{IsWritten}
-use Rattle.dav_cache.proofs.Filing.{changes_wider}
+use Rattle.dav_recorder.specs.Files.{ChangesOnly, IsStored}
+use Rattle.dav_recorder.specs.Stands.{IsWritten}
+use Rattle.dav_recorder.proofs.Filing.{changes_wider}
 use Rattle.dav_desk.specs.Entry.{file_in}
 use Rattle.dav_desk.proofs.entry.enter.Goals as goal
 

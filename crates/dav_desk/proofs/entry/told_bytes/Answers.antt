@@ -5,7 +5,7 @@ use Rattle.dav_deeds.specs.Legal.{table_after}
 use Rattle.dav_deeds.specs.declared.answer.Flight.{Flight}
 use Rattle.dav_deeds.specs.declared.answer.Told.{Told}
 use Rattle.dav_deeds.specs.declared.answer.Told.TheVariants.{Took}
-use Rattle.dav_cache.specs.Planned.{kept_table}
+use Rattle.dav_recorder.specs.Planned.{kept_table}
 use Rattle.dav_desk.proofs.entry.told_bytes.Goals as goal
 
 same_job : (a b : Flight) → ◌≡◌ {A = Option Told} (Some (Took a)) (Some (Took b)) → a ≡ b

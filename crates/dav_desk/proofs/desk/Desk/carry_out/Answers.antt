@@ -19,14 +19,14 @@ use Rattle.dav_deeds.specs.declared.deed.Deed.{Deed}
 use Rattle.dav_deeds.specs.declared.deed.Step.{Step}
 use Rattle.dav_deeds.specs.declared.deed.Trace.{Trace}
 use Rattle.dav_deeds.proofs.Sounds.{after_sound}
-use Rattle.dav_cache.specs.declared.recorder.Recorder.{Recorder}
+use Rattle.dav_recorder.specs.declared.recorder.Recorder.{Recorder}
 use Rattle.dav_desk.specs.Working.{IsWorking, HasBytes, HasSum}
 use Rattle.dav_desk.proofs.Carrying.{Base, Read, Stood, starved_asked, starved_readied, starved_faults, starved_works, starved_lives_on, can_record, missing_asked, missing_readied, read_faults, read_works, read_left, read_entry, read_named, lives, lives_read, entered_faults, failed_asked, failed_readied, failed_not_alive, went_asked, went_readied, went_works, went_lives_on}
 use Rattle.dav_desk.proofs.Rooming.{held_slot, one_slot}
 use Rattle.dav_desk.proofs.Entering.{row_fits, new_begins, freed_begin}
 use Rattle.dav_desk.proofs.Going.{answer_has, job_bytes, job_sum}
-use Rattle.dav_cache.proofs.Filing.{changes_none}
-use Rattle.dav_cache.specs.Stands.{IsWritten}
+use Rattle.dav_recorder.proofs.Filing.{changes_none}
+use Rattle.dav_recorder.specs.Stands.{IsWritten}
 use Rattle.dav_desk.specs.Changed.{fresh_by, freed_by}
 use Rattle.dav_desk.proofs.Changing.{changes_asked, changes_looked, stored_asked, empty_asked, on_ok_any}
 use Rattle.dav_desk.proofs.desk.Desk.carry_out.Goals as goal

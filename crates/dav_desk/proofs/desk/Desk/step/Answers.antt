@@ -16,8 +16,8 @@ use Rattle.dav_desk.proofs.Rooming.{end_held, end_frees, room_held}
 use Rattle.dav_desk.proofs.Telling.{took_is}
 use Rattle.dav_deeds.specs.declared.fault.DeskFault.{DeskFault}
 use Rattle.dav_desk.proofs.Asking.{asked_dead, asked_starved}
-use Rattle.dav_cache.specs.Stands.{IsWritten}
-use Rattle.dav_cache.proofs.Filing.{changes_none}
+use Rattle.dav_recorder.specs.Stands.{IsWritten}
+use Rattle.dav_recorder.proofs.Filing.{changes_none}
 use Rattle.dav_deeds.specs.Change.{IsPlan}
 use Rattle.dav_deeds.specs.declared.plan.Planned.{Planned}
 use Rattle.dav_deeds.specs.declared.deed.Step.{Step}
