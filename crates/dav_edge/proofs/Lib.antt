@@ -1,4 +1,5 @@
 pub mod Connecting
+pub mod Numbering
 pub mod Pieces
 pub mod Sending
 pub mod Taking

@@ -4,6 +4,11 @@ pub mod MemConnection
 pub mod Memory
 pub mod Note
 pub mod History
+pub mod ListClock
+pub mod ListNoise
+pub mod ListPace
+pub mod Listed
+pub mod Numbers
 pub mod Schedule
 pub mod Stream
 pub mod Whole
