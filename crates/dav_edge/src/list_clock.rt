@@ -23,6 +23,15 @@ impl ListClock {
     {
         ListClock { moments, calls: 0 }
     }
+
+    // The moment that the next call gives.
+    fn next(&self) -> u64
+        ensures { result ≡ number_or_last (moments_of self.now) (clock_calls self.now) }
+    {
+        let last = self.moments.len().saturating_sub(1);
+        let place = (self.calls as usize).min(last);
+        self.moments.get(place).copied().unwrap_or(0)
+    }
 }
 
 impl Clock for ListClock {
@@ -36,9 +45,8 @@ impl Clock for ListClock {
         ensures counted { clock_calls self.new ≡ one_call_more (clock_calls self.old) }
         ensures same { moments_of self.new ≡ moments_of self.old }
     {
-        let last = self.moments.len().saturating_sub(1);
-        let place = (self.calls as usize).min(last);
+        let moment = self.next();
         self.calls = self.calls.saturating_add(1);
-        self.moments.get(place).copied().unwrap_or(0)
+        moment
     }
 }
