@@ -71,7 +71,11 @@ impl LocalHistory {
             self.stop();
             return Err(LocalFault::Failed);
         };
-        if self.notes.push(LocalNote::Loaded(name, limit, copy)).is_err() {
+        if self
+            .notes
+            .push(LocalNote::Loaded(name, limit, copy))
+            .is_err()
+        {
             self.stop();
             return Err(LocalFault::Failed);
         }
@@ -87,7 +91,11 @@ impl LocalHistory {
             self.tells = false;
             return;
         };
-        if self.notes.push(LocalNote::NotLoaded(name, limit, fault)).is_err() {
+        if self
+            .notes
+            .push(LocalNote::NotLoaded(name, limit, fault))
+            .is_err()
+        {
             self.tells = false;
         }
     }
@@ -125,7 +133,11 @@ impl LocalHistory {
             self.tells = false;
             return;
         };
-        if self.notes.push(LocalNote::NotStored(name, copy, fault)).is_err() {
+        if self
+            .notes
+            .push(LocalNote::NotStored(name, copy, fault))
+            .is_err()
+        {
             self.tells = false;
         }
     }

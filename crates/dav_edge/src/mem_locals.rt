@@ -1,9 +1,10 @@
-ghost use Rattle.std.specs.Prelude.{◌≡◌, ◌↔◌, ◌⊎◌, ◌≢◌, ℕ, List, ◌≤◌, [], ◌∷◌, length, Some, None, Err, MatchOption, IsTrue, IsErr, IfOk, IfErr, IfSome, OnOk};
+ghost use Rattle.std.specs.Prelude.{◌≡◌, ◌↔◌, ◌⊎◌, ◌≤◌, [], ◌∷◌, length, Some, None, Err, MatchOption, IsTrue, IsErr, IfOk, IfErr, IfSome, OnOk};
 ghost use Rattle.dav_edge.specs.LocalFile.{content_of};
 ghost use Rattle.dav_edge.specs.Locals.{LocalsGrew, loaded, stored, IsLonger, FilesStay, OtherFilesStay};
 ghost use Rattle.dav_edge.specs.Schedule.{fails_now, next_call};
 ghost use Rattle.dav_edge.specs.declared.local_fault.LocalFault.TheVariants.{NoFile, TooLong, Failed as FailedFault, Memory as MemoryFault};
 
+use crate::local_file::{content_of, put};
 use crate::local_history::LocalHistory;
 use crate::schedule::Schedule;
 use crate::{LocalFault, LocalFile, Locals};
@@ -19,20 +20,7 @@ pub struct MemLocals {
     files: Vec<LocalFile>,
 }
 
-// The bytes of the last file of a name.
-fn bytes_of<'a>(files: &'a [LocalFile], name: &str) -> Option<&'a [u8]>
-    ensures { MatchOption result (content_of files.now name.now ≡ None) (λ bytes. content_of files.now name.now ≡ Some bytes.now) }
-{
-    let mut found: Option<&[u8]> = None;
-    for file in files {
-        if file.name.as_bytes() == name.as_bytes() {
-            found = Some(file.bytes.as_slice());
-        }
-    }
-    found
-}
-
-// A copy of the last file of a name, where the device is to fail or not.
+// A copy of the bytes that a name stands for, where the device is to fail or not.
 fn copy_within(
     alloc: Global,
     files: &[LocalFile],
@@ -47,7 +35,7 @@ fn copy_within(
     ensures fails { IsTrue fails → IsErr result }
     ensures failed { result ≡ Err FailedFault → IsTrue fails }
 {
-    let Some(bytes) = bytes_of(files, name) else {
+    let Some(bytes) = content_of(files, name) else {
         return Err(LocalFault::NoFile);
     };
     if bytes.len() as u64 > limit {
@@ -60,23 +48,6 @@ fn copy_within(
         Ok(copy) => Ok(copy),
         Err(Memory) => Err(LocalFault::Memory),
     }
-}
-
-// A file of this name and these bytes behind the others.
-fn put(
-    alloc: Global,
-    files: &mut Vec<LocalFile>,
-    name: &str,
-    bytes: &[u8],
-) -> Result<(), Memory>
-    ensures stored { OnOk result (content_of files.new.items name.now ≡ Some bytes.now) }
-    ensures others { (other : List ℕ) → other ≢ name.now → content_of files.new.items other ≡ content_of files.old.items other }
-    ensures same { IsErr result → files.new.items ≡ files.old.items }
-{
-    let name = String::from_str(alloc, name)?;
-    let bytes = Vec::from_slice(alloc, bytes)?;
-    files.push(LocalFile { name, bytes })?;
-    Ok(())
 }
 
 impl MemLocals {
@@ -101,7 +72,7 @@ impl MemLocals {
     pub fn bytes_of(&self, name: &str) -> Option<&[u8]>
         ensures { MatchOption result (files_of self.now name.now ≡ None) (λ bytes. files_of self.now name.now ≡ Some bytes.now) }
     {
-        bytes_of(self.files.as_slice(), name)
+        content_of(self.files.as_slice(), name)
     }
 
     /// How many calls failed.
