@@ -1,5 +1,6 @@
 ghost use Rattle.std.specs.Prelude.{◌≡◌, ◌≢◌, ℕ, List, None, Some, MatchOption, IfOk, OnOk, IsErr, string_bytes};
 ghost use Rattle.std.specs.Option.{option_copied};
+ghost use Rattle.dav_edge.specs.LocalFile.{is_named, last_named, content_of};
 
 use dav_text::Memory;
 use std::alloc::Global;
@@ -12,8 +13,6 @@ pub struct LocalFile {
 }
 
 impl LocalFile {
-    ghost use Rattle.dav_edge.specs.LocalFile.{is_named};
-
     /// A file of this name that holds these bytes.
     pub fn copy_of(alloc: Global, name: &str, bytes: &[u8]) -> Result<LocalFile, Memory>
         ensures name { IfOk result (λ file. string_bytes file.name ≡ name.now) }
@@ -30,8 +29,6 @@ impl LocalFile {
         self.name.as_bytes() == name.as_bytes()
     }
 }
-
-ghost use Rattle.dav_edge.specs.LocalFile.{last_named, content_of};
 
 // The last file of a name.
 fn last_named<'a>(files: &'a [LocalFile], name: &str) -> Option<&'a LocalFile>

@@ -61,7 +61,7 @@ impl LocalHistory {
     pub fn loaded(&mut self, name: &str, limit: u64, bytes: Blob) -> Result<Blob, LocalFault>
         ensures log { LocalsGrew (local_log_of self.old) (local_log_of self.new) (loaded name.now limit result ∷ []) }
         ensures same { IfOk result (λ b. b ≡ bytes) }
-        ensures failed { IfErr result (λ fault. fault ≡ FailedFault) }
+        ensures failed { IfErr result (λ fault. (fault ≡ FailedFault) × ((local_log_of self.new).told ≡ None)) }
     {
         let Ok(name) = String::from_str(self.alloc, name) else {
             self.stop();
@@ -103,7 +103,7 @@ impl LocalHistory {
     /// Writes down that bytes were stored. Without room for that the call failed.
     pub fn stored(&mut self, name: &str, bytes: &[u8]) -> Result<(), LocalFault>
         ensures log { LocalsGrew (local_log_of self.old) (local_log_of self.new) (stored name.now bytes.now result ∷ []) }
-        ensures failed { IfErr result (λ fault. fault ≡ FailedFault) }
+        ensures failed { IfErr result (λ fault. (fault ≡ FailedFault) × ((local_log_of self.new).told ≡ None)) }
     {
         let Ok(name) = String::from_str(self.alloc, name) else {
             self.stop();

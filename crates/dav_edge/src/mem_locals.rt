@@ -98,6 +98,7 @@ impl Locals for MemLocals {
         ensures too_long { IfSome (files_told self.old) (λ files. (result ≡ Err TooLong) ↔ IsLonger limit (files name.now)) }
         ensures files { FilesStay (files_told self.old) (files_told self.new) }
         ensures listed { IsTrue (fails_now (locals_schedule self.old)) → IsErr result }
+        ensures unlisted { result ≡ Err FailedFault → IsTrue (fails_now (locals_schedule self.old)) ⊎ ((locals_log self.new).told ≡ None) }
         ensures counted { locals_schedule self.new ≡ next_call (locals_schedule self.old) }
     {
         let fails = self.schedule.begin();
@@ -117,6 +118,7 @@ impl Locals for MemLocals {
         ensures faults { IfErr result (λ fault. (fault ≡ FailedFault) ⊎ (fault ≡ MemoryFault)) }
         ensures starved { result ≡ Err MemoryFault → FilesStay (files_told self.old) (files_told self.new) }
         ensures listed { IsTrue (fails_now (locals_schedule self.old)) → (result ≡ Err FailedFault) × FilesStay (files_told self.old) (files_told self.new) }
+        ensures unlisted { result ≡ Err FailedFault → IsTrue (fails_now (locals_schedule self.old)) ⊎ ((locals_log self.new).told ≡ None) }
         ensures counted { locals_schedule self.new ≡ next_call (locals_schedule self.old) }
     {
         if self.schedule.begin() {
