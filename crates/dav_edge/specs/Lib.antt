@@ -4,6 +4,16 @@ pub mod MemConnection
 pub mod Memory
 pub mod Note
 pub mod History
+pub mod ListClock
+pub mod ListNoise
+pub mod ListPace
+pub mod Listed
+pub mod LocalFile
+pub mod LocalHistory
+pub mod LocalNote
+pub mod Locals
+pub mod MemLocals
+pub mod Numbers
 pub mod Schedule
 pub mod Stream
 pub mod Whole
