@@ -1,6 +1,7 @@
-ghost use Rattle.std.specs.Prelude.{◌≡◌, ◌≢◌, ◌++◌, Ok, Err, IfOk, MatchResult, string_bytes};
+ghost use Rattle.std.specs.Prelude.{◌≡◌, ◌≢◌, ◌++◌, Ok, Err, IfOk, MatchResult, IsTrue, string_bytes};
 ghost use Rattle.url.specs.Parts.{serialize};
-ghost use Rattle.dav_uri.specs.Target.{BaseParts, base_of, base_tested, is_plain as is_plain_lem, is_on as is_on_lem, ends_with_slash as ends_with_slash_lem, with_slash, host_field, target_url};
+ghost use Rattle.dav_uri.specs.Url.{is_url_text};
+ghost use Rattle.dav_uri.specs.Target.{base_of, base_tested, is_plain as is_plain_lem, is_on as is_on_lem, ends_with_slash as ends_with_slash_lem, with_slash, host_field, target_url};
 
 use crate::fault::UriFault;
 use crate::target::{is_http, parsed, path_in};
@@ -23,9 +24,15 @@ pub struct Base {
 }
 
 impl Model for Base {
+    ghost use Rattle.std.specs.Prelude.{IsTrue};
+    ghost use Rattle.dav_uri.specs.Target.{BaseParts};
+    ghost use Rattle.dav_uri.specs.Url.{is_url_text};
+
     ghost Value = { BaseParts };
 
     ghost view = { λ b. record { host = b.host; port = b.port; path = b.path; text = b.text } };
+
+    ghost invariant = { λ b. IsTrue (is_url_text b.host) };
 }
 
 impl Base {
@@ -82,10 +89,13 @@ impl Base {
         self.text.as_str()
     }
 
-    /// The value of a Host field: the host, and the port where it isn't 80.
+    /// The value of a Host field: the host, and the port where it isn't 80. It has no blank, no control
+    /// character and no angle bracket.
     pub fn host_field(&self, alloc: Global) -> Result<Text, Memory>
-        ensures { IfOk result (λ text. text ≡ host_field self.now.host self.now.port) }
+        ensures value { IfOk result (λ text. text ≡ host_field self.now.host self.now.port) }
+        ensures plain { IsTrue (is_url_text (host_field self.now.host self.now.port)) }
     {
+        let _port = self.port;
         if self.port == 80 {
             return self.host.copy(alloc);
         }

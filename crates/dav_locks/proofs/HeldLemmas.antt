@@ -1,0 +1,164 @@
+-- What is held after a call.
+use Rattle.std.proofs.Common.{◌≡◌, ℕ, suc, zero, ◌<◌, ◌≤◌, Bool, true, false, not, ◌||◌, List, [], ◌∷◌, ◌++◌, length, set, refl, sym, ap, ◌∙◌, arith}
+use Rattle.std.specs.Prelude.{bytes_eq, filter}
+use Rattle.std.proofs.lemmas.Bool.{false≢true}
+use Rattle.std.proofs.lemmas.Slice.Eq.{bytes_eq-Decides}
+use Rattle.dav_locks.specs.Held.{has_token, is_held, without, held, IsFull, Differ, IsStore, tokens, tokens_after}
+use Rattle.dav_locks.specs.Places.{IsFirst, NonePasses}
+use Rattle.dav_locks.specs.declared.lock.Lock.{Lock}
+
+from_eq : (a b : List ℕ) → bytes_eq a b ≡ true → a ≡ b
+from_eq a b e = (bytes_eq-Decides a b (bytes_eq a b) refl).0 e
+
+to_eq : (a b : List ℕ) → a ≡ b → bytes_eq a b ≡ true
+to_eq a b e = (bytes_eq-Decides a b (bytes_eq a b) refl).1 e
+
+not_true : (b : Bool) → (b ≡ true → ⊥) → b ≡ false
+not_true true h = absurd (h refl)
+not_true false h = refl
+
+eq_sym : (a b : List ℕ) → bytes_eq a b ≡ false → bytes_eq b a ≡ false
+eq_sym a b no = not_true (bytes_eq b a) (λ e. false≢true (sym no ∙ to_eq a b (sym (from_eq b a e))))
+
+or_first : (a b : Bool) → (a || b) ≡ false → a ≡ false
+or_first true b no = no
+or_first false b no = refl
+
+or_second : (a b : Bool) → (a || b) ≡ false → b ≡ false
+or_second true b no = absurd (false≢true (sym no))
+or_second false b no = no
+
+neither : (a b : Bool) → a ≡ false → b ≡ false → (a || b) ≡ false
+neither a b no nor = rw no nor
+
+-- ---- places
+
+pub held_at_place : (lock : Lock) (locks : List Lock) (i : ℕ) → IsFirst (has_token lock.token) locks i → set locks i lock ≡ held lock locks
+held_at_place lock [] i first = absurd (let w : i < 0 = first.within in omega arith)
+held_at_place lock (x ∷ xs) zero first = rw (first.passes x) refl
+held_at_place lock (x ∷ xs) (suc i) first =
+    let fails : has_token lock.token x ≡ false = first.before zero x (omega arith) (omega arith) in
+    let later : IsFirst (has_token lock.token) xs i = record {
+      within = let w : suc i < suc (length xs) = first.within in omega arith;
+      passes = λ d. first.passes d;
+      before = λ k d l u. first.before (suc k) d (omega arith) (omega arith);
+    } in
+    rw fails (ap (λ (ys : List Lock). x ∷ ys) (held_at_place lock xs i later))
+
+pub held_last : (lock : Lock) (locks : List Lock) → NonePasses (has_token lock.token) locks → locks ++ lock ∷ [] ≡ held lock locks
+held_last lock [] none = refl
+held_last lock (x ∷ xs) none =
+    let fails : has_token lock.token x ≡ false = none zero x (omega arith) (omega arith) in
+    rw fails (ap (λ (ys : List Lock). x ∷ ys) (held_last lock xs (λ k d l u. none (suc k) d (omega arith) (omega arith))))
+
+pub all_without : (token : List ℕ) (locks : List Lock) → is_held token locks ≡ false → without token locks ≡ locks
+all_without token [] no = refl
+all_without token (x ∷ xs) no =
+    rw (or_first (has_token token x) (is_held token xs) no) (ap (λ (ys : List Lock). x ∷ ys) (all_without token xs (or_second (has_token token x) (is_held token xs) no)))
+
+pub not_held : (token : List ℕ) (locks : List Lock) → NonePasses (has_token token) locks → is_held token locks ≡ false
+not_held token [] none = refl
+not_held token (x ∷ xs) none =
+    neither (has_token token x) (is_held token xs) (none zero x (omega arith) (omega arith)) (not_held token xs (λ k d l u. none (suc k) d (omega arith) (omega arith)))
+
+-- ---- what is held at any moment
+
+same_token_held : (a b : List ℕ) (locks : List Lock) → bytes_eq a b ≡ true → is_held a locks ≡ false → is_held b locks ≡ false
+same_token_held a b locks same no = ap (λ (t : List ℕ). is_held t locks) (sym (from_eq a b same)) ∙ no
+
+still_other : (token : List ℕ) (lock : Lock) (locks : List Lock) → has_token token lock ≡ false → is_held token locks ≡ false → is_held token (held lock locks) ≡ false
+still_other token lock [] other no = neither _ _ other refl
+still_other token lock (x ∷ xs) other no = by (has_token lock.token x) refl
+  where
+    by : (b : Bool) → has_token lock.token x ≡ b → is_held token (held lock (x ∷ xs)) ≡ false
+    by true is = rw is (neither (has_token token lock) (is_held token xs) other (or_second (has_token token x) (is_held token xs) no))
+    by false is = rw is (neither (has_token token x) (is_held token (held lock xs)) (or_first (has_token token x) (is_held token xs) no) (still_other token lock xs other (or_second (has_token token x) (is_held token xs) no)))
+
+differ_held : (lock : Lock) (locks : List Lock) → Differ locks → Differ (held lock locks)
+differ_held lock [] differ = (refl, tt)
+differ_held lock (x ∷ xs) differ = by (has_token lock.token x) refl
+  where
+    by : (b : Bool) → has_token lock.token x ≡ b → Differ (held lock (x ∷ xs))
+    by true is = rw is (same_token_held x.token lock.token xs is differ.0, differ.1)
+    by false is = rw is (still_other x.token lock xs (eq_sym x.token lock.token is) differ.0, differ_held lock xs differ.1)
+
+-- one more than the locks of other tokens
+held_length : (lock : Lock) (locks : List Lock) → Differ locks → length (held lock locks) ≡ suc (length (without lock.token locks))
+held_length lock [] differ = refl
+held_length lock (x ∷ xs) differ = by (has_token lock.token x) refl
+  where
+    by : (b : Bool) → has_token lock.token x ≡ b → length (held lock (x ∷ xs)) ≡ suc (length (without lock.token (x ∷ xs)))
+    by true is = rw is (ap (λ (ys : List Lock). suc (length ys)) (sym (all_without lock.token xs (same_token_held x.token lock.token xs is differ.0))))
+    by false is = rw is (ap suc (held_length lock xs differ.1))
+
+pub store_held : (lock : Lock) (locks : List Lock) → IsStore locks → (IsFull lock.token locks → ⊥) → IsStore (held lock locks)
+store_held lock locks store room = record {
+  differ = differ_held lock locks store.differ;
+  few = let long = held_length lock locks store.differ in by (length (without lock.token locks)) refl long;
+}
+  where
+    by : (n : ℕ) → n ≡ length (without lock.token locks) → length (held lock locks) ≡ suc n → length (held lock locks) ≤ 256
+    by n is long = let no : n < 256 = omega (arith, room) in omega arith
+
+less_without : (token : List ℕ) (locks : List Lock) → length (without token locks) ≤ length locks
+less_without token [] = omega arith
+less_without token (x ∷ xs) = by (has_token token x) refl
+  where
+    by : (b : Bool) → has_token token x ≡ b → length (without token (x ∷ xs)) ≤ suc (length xs)
+    by true is = rw is (let rest = less_without token xs in omega arith)
+    by false is = rw is (let rest = less_without token xs in omega arith)
+
+other_without : (token other : List ℕ) (locks : List Lock) → is_held other locks ≡ false → is_held other (without token locks) ≡ false
+other_without token other [] no = refl
+other_without token other (x ∷ xs) no = by (has_token token x) refl
+  where
+    by : (b : Bool) → has_token token x ≡ b → is_held other (without token (x ∷ xs)) ≡ false
+    by true is = rw is (other_without token other xs (or_second (has_token other x) (is_held other xs) no))
+    by false is = rw is (neither (has_token other x) (is_held other (without token xs)) (or_first (has_token other x) (is_held other xs) no) (other_without token other xs (or_second (has_token other x) (is_held other xs) no)))
+
+differ_without : (token : List ℕ) (locks : List Lock) → Differ locks → Differ (without token locks)
+differ_without token [] differ = tt
+differ_without token (x ∷ xs) differ = by (has_token token x) refl
+  where
+    by : (b : Bool) → has_token token x ≡ b → Differ (without token (x ∷ xs))
+    by true is = rw is (differ_without token xs differ.1)
+    by false is = rw is (other_without token x.token xs differ.0, differ_without token xs differ.1)
+
+pub store_without : (token : List ℕ) (locks : List Lock) → IsStore locks → IsStore (without token locks)
+store_without token locks store = record {
+  differ = differ_without token locks store.differ;
+  few = let less = less_without token locks in let few = store.few in omega arith;
+}
+
+pub store_empty : IsStore []
+store_empty = record { differ = tt; few = omega arith }
+
+-- a token that is held leaves room
+held_first : (token : List ℕ) (locks : List Lock) (i : ℕ) → IsFirst (has_token token) locks i → suc (length (without token locks)) ≤ length locks
+held_first token [] i first = absurd (let w : i < 0 = first.within in omega arith)
+held_first token (x ∷ xs) zero first =
+    let is : has_token token x ≡ true = first.passes x in
+    let less = less_without token xs in
+    rw is (omega arith)
+held_first token (x ∷ xs) (suc i) first =
+    let fails : has_token token x ≡ false = first.before zero x (omega arith) (omega arith) in
+    let later : IsFirst (has_token token) xs i = record {
+      within = let w : suc i < suc (length xs) = first.within in omega arith;
+      passes = λ d. first.passes d;
+      before = λ k d l u. first.before (suc k) d (omega arith) (omega arith);
+    } in
+    let rest = held_first token xs i later in
+    rw fails (omega arith)
+
+pub not_full : (token : List ℕ) (locks : List Lock) (i : ℕ) → IsStore locks → IsFirst (has_token token) locks i → IsFull token locks → ⊥
+not_full token locks i store first full = let less = held_first token locks i first in let few = store.few in omega arith
+
+-- ---- the order
+
+pub tokens_held : (lock : Lock) (locks : List Lock) → tokens (held lock locks) ≡ tokens_after lock.token (tokens locks)
+tokens_held lock [] = refl
+tokens_held lock (x ∷ xs) = by (has_token lock.token x) refl
+  where
+    by : (b : Bool) → has_token lock.token x ≡ b → tokens (held lock (x ∷ xs)) ≡ tokens_after lock.token (tokens (x ∷ xs))
+    by true is = rw is (ap (λ (t : List ℕ). t ∷ tokens xs) (sym (from_eq x.token lock.token is)))
+    by false is = rw is (ap (λ (ts : List (List ℕ)). x.token ∷ ts) (tokens_held lock xs))
