@@ -15,7 +15,7 @@ tails : {a b : ℕ} {x y : List ℕ} → a ∷ x ≡ b ∷ y → x ≡ y
 tails e = cc
 
 passes_not : (p : ℕ → Bool) (a b : ℕ) → p a ≡ true → p b ≡ false → a ≡ b → ⊥
-passes_not p a b is no same = false≢true (sym no ∙ ap p (sym same) ∙ is)
+passes_not p a b is non same = false≢true (sym non ∙ ap p (sym same) ∙ is)
 
 -- two texts that are the same up to their first byte that fails a test are the same in both parts
 cut : (p : ℕ → Bool) (c d : ℕ) (u v x y : List ℕ) → p c ≡ false → p d ≡ false → list_all p u ≡ true → list_all p v ≡ true → u ++ c ∷ x ≡ v ++ d ∷ y → (u ≡ v) × (c ∷ x ≡ d ∷ y)
@@ -39,15 +39,15 @@ same_condition one other url token =
 same_tagged : (one other : Condition) (text x y : List ℕ) → IsTagged one text x → IsTagged other text y → (one ≡ other) × (x ≡ y)
 same_tagged one other text x y a b =
     let blank = is_blank Field in
-    let as = and_parts _ _ a.blanks in
-    let bs = and_parts _ _ b.blanks in
-    let as_first = and_parts _ _ as.0 in
-    let bs_first = and_parts _ _ bs.0 in
+    let mine = and_parts _ _ a.blanks in
+    let yours = and_parts _ _ b.blanks in
+    let my_first = and_parts _ _ mine.0 in
+    let your_first = and_parts _ _ yours.0 in
     let urls = cut is_url_byte 62 62 one.url other.url _ _ refl refl a.url b.url (tails (sym a.split ∙ b.split)) in
-    let lists = cut blank 40 40 a.before_list b.before_list _ _ refl refl as_first.0 bs_first.0 (tails urls.1) in
-    let opens = cut blank 60 60 a.before_token b.before_token _ _ refl refl as_first.1 bs_first.1 (tails lists.1) in
+    let lists = cut blank 40 40 a.before_list b.before_list _ _ refl refl my_first.0 your_first.0 (tails urls.1) in
+    let opens = cut blank 60 60 a.before_token b.before_token _ _ refl refl my_first.1 your_first.1 (tails lists.1) in
     let tokens = cut is_token_byte 62 62 one.token other.token _ _ refl refl (token_bytes one.token a.token) (token_bytes other.token b.token) (tails opens.1) in
-    let ends = cut blank 41 41 a.after_token b.after_token x y refl refl as.1 bs.1 (tails tokens.1) in
+    let ends = cut blank 41 41 a.after_token b.after_token x y refl refl mine.1 yours.1 (tails tokens.1) in
     (same_condition one other urls.0 tokens.0, tails ends.1)
 
 -- what a reading begins with

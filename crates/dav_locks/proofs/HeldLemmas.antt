@@ -1,35 +1,35 @@
 -- What is held after a call.
-use Rattle.std.proofs.Common.{◌≡◌, ℕ, suc, zero, ◌<◌, ◌≤◌, Bool, true, false, not, ◌||◌, List, [], ◌∷◌, ◌++◌, length, set, refl, sym, ap, ◌∙◌, arith}
+use Rattle.std.proofs.Common.{◌≡◌, ℕ, suc, zero, ◌<◌, ◌≤◌, Bool, true, false, not, ◌||◌, List, [], ◌∷◌, ◌++◌, length, set, inl, inr, refl, sym, ap, ◌∙◌, arith}
 use Rattle.std.specs.Prelude.{bytes_eq, filter}
-use Rattle.std.proofs.lemmas.Bool.{false≢true}
+use Rattle.std.proofs.lemmas.Bool.{false≢true, cases_lt}
 use Rattle.std.proofs.lemmas.Slice.Eq.{bytes_eq-Decides}
 use Rattle.dav_locks.specs.Held.{has_token, is_held, without, held, IsFull, Differ, IsStore, tokens, tokens_after}
 use Rattle.dav_locks.specs.Places.{IsFirst, NonePasses}
 use Rattle.dav_locks.specs.declared.lock.Lock.{Lock}
 
 from_eq : (a b : List ℕ) → bytes_eq a b ≡ true → a ≡ b
-from_eq a b e = (bytes_eq-Decides a b (bytes_eq a b) refl).0 e
+from_eq a b e = (bytes_eq-Decides a b).0 e
 
 to_eq : (a b : List ℕ) → a ≡ b → bytes_eq a b ≡ true
-to_eq a b e = (bytes_eq-Decides a b (bytes_eq a b) refl).1 e
+to_eq a b e = (bytes_eq-Decides a b).1 e
 
 not_true : (b : Bool) → (b ≡ true → ⊥) → b ≡ false
 not_true true h = absurd (h refl)
 not_true false h = refl
 
 eq_sym : (a b : List ℕ) → bytes_eq a b ≡ false → bytes_eq b a ≡ false
-eq_sym a b no = not_true (bytes_eq b a) (λ e. false≢true (sym no ∙ to_eq a b (sym (from_eq b a e))))
+eq_sym a b non = not_true (bytes_eq b a) (λ e. false≢true (sym non ∙ to_eq a b (sym (from_eq b a e))))
 
 or_first : (a b : Bool) → (a || b) ≡ false → a ≡ false
-or_first true b no = no
-or_first false b no = refl
+or_first true b non = non
+or_first false b non = refl
 
 or_second : (a b : Bool) → (a || b) ≡ false → b ≡ false
-or_second true b no = absurd (false≢true (sym no))
-or_second false b no = no
+or_second true b non = absurd (false≢true (sym non))
+or_second false b non = non
 
 neither : (a b : Bool) → a ≡ false → b ≡ false → (a || b) ≡ false
-neither a b no nor = rw no nor
+neither a b non nor = rw non nor
 
 -- ---- places
 
@@ -52,9 +52,9 @@ held_last lock (x ∷ xs) none =
     rw fails (ap (λ (ys : List Lock). x ∷ ys) (held_last lock xs (λ k d l u. none (suc k) d (omega arith) (omega arith))))
 
 pub all_without : (token : List ℕ) (locks : List Lock) → is_held token locks ≡ false → without token locks ≡ locks
-all_without token [] no = refl
-all_without token (x ∷ xs) no =
-    rw (or_first (has_token token x) (is_held token xs) no) (ap (λ (ys : List Lock). x ∷ ys) (all_without token xs (or_second (has_token token x) (is_held token xs) no)))
+all_without token [] non = refl
+all_without token (x ∷ xs) non =
+    rw (or_first (has_token token x) (is_held token xs) non) (ap (λ (ys : List Lock). x ∷ ys) (all_without token xs (or_second (has_token token x) (is_held token xs) non)))
 
 pub not_held : (token : List ℕ) (locks : List Lock) → NonePasses (has_token token) locks → is_held token locks ≡ false
 not_held token [] none = refl
@@ -64,65 +64,70 @@ not_held token (x ∷ xs) none =
 -- ---- what is held at any moment
 
 same_token_held : (a b : List ℕ) (locks : List Lock) → bytes_eq a b ≡ true → is_held a locks ≡ false → is_held b locks ≡ false
-same_token_held a b locks same no = ap (λ (t : List ℕ). is_held t locks) (sym (from_eq a b same)) ∙ no
+same_token_held a b locks same non = ap (λ (t : List ℕ). is_held t locks) (sym (from_eq a b same)) ∙ non
 
 still_other : (token : List ℕ) (lock : Lock) (locks : List Lock) → has_token token lock ≡ false → is_held token locks ≡ false → is_held token (held lock locks) ≡ false
-still_other token lock [] other no = neither _ _ other refl
-still_other token lock (x ∷ xs) other no = by (has_token lock.token x) refl
+still_other token lock [] other non = neither _ _ other refl
+still_other token lock (x ∷ xs) other non =
+    by (still_other token lock xs other (or_second (has_token token x) (is_held token xs) non)) (has_token lock.token x) refl
   where
-    by : (b : Bool) → has_token lock.token x ≡ b → is_held token (held lock (x ∷ xs)) ≡ false
-    by true is = rw is (neither (has_token token lock) (is_held token xs) other (or_second (has_token token x) (is_held token xs) no))
-    by false is = rw is (neither (has_token token x) (is_held token (held lock xs)) (or_first (has_token token x) (is_held token xs) no) (still_other token lock xs other (or_second (has_token token x) (is_held token xs) no)))
+    by : is_held token (held lock xs) ≡ false → (b : Bool) → has_token lock.token x ≡ b → is_held token (held lock (x ∷ xs)) ≡ false
+    by rest true is = rw is (neither (has_token token lock) (is_held token xs) other (or_second (has_token token x) (is_held token xs) non))
+    by rest false is = rw is (neither (has_token token x) (is_held token (held lock xs)) (or_first (has_token token x) (is_held token xs) non) rest)
 
 differ_held : (lock : Lock) (locks : List Lock) → Differ locks → Differ (held lock locks)
 differ_held lock [] differ = (refl, tt)
-differ_held lock (x ∷ xs) differ = by (has_token lock.token x) refl
+differ_held lock (x ∷ xs) differ = by (differ_held lock xs differ.1) (has_token lock.token x) refl
   where
-    by : (b : Bool) → has_token lock.token x ≡ b → Differ (held lock (x ∷ xs))
-    by true is = rw is (same_token_held x.token lock.token xs is differ.0, differ.1)
-    by false is = rw is (still_other x.token lock xs (eq_sym x.token lock.token is) differ.0, differ_held lock xs differ.1)
+    by : Differ (held lock xs) → (b : Bool) → has_token lock.token x ≡ b → Differ (held lock (x ∷ xs))
+    by rest true is = rw is (same_token_held x.token lock.token xs is differ.0, differ.1)
+    by rest false is = rw is (still_other x.token lock xs (eq_sym x.token lock.token is) differ.0, rest)
 
 -- one more than the locks of other tokens
 held_length : (lock : Lock) (locks : List Lock) → Differ locks → length (held lock locks) ≡ suc (length (without lock.token locks))
 held_length lock [] differ = refl
-held_length lock (x ∷ xs) differ = by (has_token lock.token x) refl
+held_length lock (x ∷ xs) differ = by (held_length lock xs differ.1) (has_token lock.token x) refl
   where
-    by : (b : Bool) → has_token lock.token x ≡ b → length (held lock (x ∷ xs)) ≡ suc (length (without lock.token (x ∷ xs)))
-    by true is = rw is (ap (λ (ys : List Lock). suc (length ys)) (sym (all_without lock.token xs (same_token_held x.token lock.token xs is differ.0))))
-    by false is = rw is (ap suc (held_length lock xs differ.1))
+    by : length (held lock xs) ≡ suc (length (without lock.token xs)) → (b : Bool) → has_token lock.token x ≡ b → length (held lock (x ∷ xs)) ≡ suc (length (without lock.token (x ∷ xs)))
+    by rest true is = rw is (ap (λ (ys : List Lock). suc (length ys)) (sym (all_without lock.token xs (same_token_held x.token lock.token xs is differ.0))))
+    by rest false is = rw is (ap suc rest)
+
+few_held : (n m : ℕ) → m ≡ suc n → (256 ≤ n → ⊥) → m ≤ 256
+few_held n m long room = elim (cases_lt n 256) [
+  | inl below ↦ omega arith
+  | inr beyond ↦ absurd (room (omega arith))
+]
 
 pub store_held : (lock : Lock) (locks : List Lock) → IsStore locks → (IsFull lock.token locks → ⊥) → IsStore (held lock locks)
 store_held lock locks store room = record {
   differ = differ_held lock locks store.differ;
-  few = let long = held_length lock locks store.differ in by (length (without lock.token locks)) refl long;
+  few = few_held (length (without lock.token locks)) (length (held lock locks)) (held_length lock locks store.differ) room;
 }
-  where
-    by : (n : ℕ) → n ≡ length (without lock.token locks) → length (held lock locks) ≡ suc n → length (held lock locks) ≤ 256
-    by n is long = let no : n < 256 = omega (arith, room) in omega arith
 
 less_without : (token : List ℕ) (locks : List Lock) → length (without token locks) ≤ length locks
 less_without token [] = omega arith
-less_without token (x ∷ xs) = by (has_token token x) refl
+less_without token (x ∷ xs) = by (less_without token xs) (has_token token x) refl
   where
-    by : (b : Bool) → has_token token x ≡ b → length (without token (x ∷ xs)) ≤ suc (length xs)
-    by true is = rw is (let rest = less_without token xs in omega arith)
-    by false is = rw is (let rest = less_without token xs in omega arith)
+    by : length (without token xs) ≤ length xs → (b : Bool) → has_token token x ≡ b → length (without token (x ∷ xs)) ≤ suc (length xs)
+    by rest true is = rw is (omega arith)
+    by rest false is = rw is (omega arith)
 
 other_without : (token other : List ℕ) (locks : List Lock) → is_held other locks ≡ false → is_held other (without token locks) ≡ false
-other_without token other [] no = refl
-other_without token other (x ∷ xs) no = by (has_token token x) refl
+other_without token other [] non = refl
+other_without token other (x ∷ xs) non =
+    by (other_without token other xs (or_second (has_token other x) (is_held other xs) non)) (has_token token x) refl
   where
-    by : (b : Bool) → has_token token x ≡ b → is_held other (without token (x ∷ xs)) ≡ false
-    by true is = rw is (other_without token other xs (or_second (has_token other x) (is_held other xs) no))
-    by false is = rw is (neither (has_token other x) (is_held other (without token xs)) (or_first (has_token other x) (is_held other xs) no) (other_without token other xs (or_second (has_token other x) (is_held other xs) no)))
+    by : is_held other (without token xs) ≡ false → (b : Bool) → has_token token x ≡ b → is_held other (without token (x ∷ xs)) ≡ false
+    by rest true is = rw is rest
+    by rest false is = rw is (neither (has_token other x) (is_held other (without token xs)) (or_first (has_token other x) (is_held other xs) non) rest)
 
 differ_without : (token : List ℕ) (locks : List Lock) → Differ locks → Differ (without token locks)
 differ_without token [] differ = tt
-differ_without token (x ∷ xs) differ = by (has_token token x) refl
+differ_without token (x ∷ xs) differ = by (differ_without token xs differ.1) (has_token token x) refl
   where
-    by : (b : Bool) → has_token token x ≡ b → Differ (without token (x ∷ xs))
-    by true is = rw is (differ_without token xs differ.1)
-    by false is = rw is (other_without token x.token xs differ.0, differ_without token xs differ.1)
+    by : Differ (without token xs) → (b : Bool) → has_token token x ≡ b → Differ (without token (x ∷ xs))
+    by rest true is = rw is rest
+    by rest false is = rw is (other_without token x.token xs differ.0, rest)
 
 pub store_without : (token : List ℕ) (locks : List Lock) → IsStore locks → IsStore (without token locks)
 store_without token locks store = record {
@@ -157,8 +162,8 @@ not_full token locks i store first full = let less = held_first token locks i fi
 
 pub tokens_held : (lock : Lock) (locks : List Lock) → tokens (held lock locks) ≡ tokens_after lock.token (tokens locks)
 tokens_held lock [] = refl
-tokens_held lock (x ∷ xs) = by (has_token lock.token x) refl
+tokens_held lock (x ∷ xs) = by (tokens_held lock xs) (has_token lock.token x) refl
   where
-    by : (b : Bool) → has_token lock.token x ≡ b → tokens (held lock (x ∷ xs)) ≡ tokens_after lock.token (tokens (x ∷ xs))
-    by true is = rw is (ap (λ (t : List ℕ). t ∷ tokens xs) (sym (from_eq x.token lock.token is)))
-    by false is = rw is (ap (λ (ts : List (List ℕ)). x.token ∷ ts) (tokens_held lock xs))
+    by : tokens (held lock xs) ≡ tokens_after lock.token (tokens xs) → (b : Bool) → has_token lock.token x ≡ b → tokens (held lock (x ∷ xs)) ≡ tokens_after lock.token (tokens (x ∷ xs))
+    by rest true is = rw is (ap (λ (t : List ℕ). t ∷ tokens xs) (sym (from_eq x.token lock.token is)))
+    by rest false is = rw is (ap (λ (ts : List (List ℕ)). x.token ∷ ts) rest)

@@ -48,7 +48,7 @@ fn append_later(host: &[u8], locks: &[Lock], out: &mut Vec<u8>) -> Result<(), Me
 // The URL of the root, and the token.
 fn append_condition(host: &[u8], lock: &Lock, out: &mut Vec<u8>) -> Result<(), Memory>
     ensures text { OnOk result (out.new.items ≡ out.old.items ++ condition_text host.now lock.now) }
-    ensures token { HasToken lock.now }
+    ensures token { OnOk result (HasToken lock.now) }
 {
     out.extend_from_slice(b"<http://")?;
     out.extend_from_slice(host)?;

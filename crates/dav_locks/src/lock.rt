@@ -1,5 +1,6 @@
 ghost use Rattle.std.specs.Prelude.{◌≡◌, IfOk};
 ghost use Rattle.dav_locks.specs.Submitted.{is_submitted as is_submitted_lem};
+ghost use Rattle.dav_locks.specs.Paths.{is_below as is_below_lem, is_child as is_child_lem};
 ghost use Rattle.dav_locks.specs.Held.{has_token as has_token_lem, has_root as has_root_lem};
 
 use crate::reach::{Depth, Use};
@@ -29,16 +30,16 @@ impl Lock {
     pub fn is_submitted(&self, how: Use, path: &Path, depth: Depth) -> bool
         ensures { result ≡ is_submitted_lem how path.now depth self.now }
     {
-        if self.root.same(path) {
+        if self.has_root(path) {
             return true;
         }
-        if self.depth == Depth::Infinity && path.is_under(&self.root) {
+        if self.depth.is_infinite() && is_below(&self.root, path) {
             return true;
         }
-        if depth == Depth::Infinity && self.root.is_under(path) {
+        if depth.is_infinite() && is_below(path, &self.root) {
             return true;
         }
-        how == Use::Member && self.root.is_parent_of(path)
+        how.is_of_member() && is_child(&self.root, path)
     }
 
     /// Whether the lock has this token.
@@ -70,4 +71,18 @@ impl Lock {
             renew_at: self.renew_at,
         })
     }
+}
+
+// Whether the path stands strictly below the top.
+fn is_below(top: &Path, path: &Path) -> bool
+    ensures { result ≡ is_below_lem top.now path.now }
+{
+    path.is_under(top)
+}
+
+// Whether the path stands right below the parent.
+fn is_child(parent: &Path, path: &Path) -> bool
+    ensures { result ≡ is_child_lem parent.now path.now }
+{
+    parent.is_parent_of(path)
 }

@@ -46,7 +46,7 @@ pub(crate) fn hold(alloc: Global, locks: &mut Vec<Lock>, lock: &Lock) -> Result<
     ensures full { IsFull lock.now.token locks.old.items → result ≡ Err LockFault.Full }
     ensures cause { IfErr result (λ f. f ≢ LockFault.Memory → (f ≡ LockFault.Full) × IsFull lock.now.token locks.old.items) }
 {
-    match place_of(locks, lock.token.as_str()) {
+    match place_of(locks.as_slice(), lock.token.as_str()) {
         Some(place) => {
             let lock = lock.copy(alloc)?;
             locks[place] = lock;

@@ -1,4 +1,6 @@
 ghost use Rattle.std.specs.Prelude.{◌≡◌, ◌≢◌, ◌↔◌, false, Ok, Err, MatchResult, IfOk, IsTrue};
+ghost use Rattle.std.specs.List.{list_all};
+ghost use Rattle.std.specs.Str.{is_utf8};
 ghost use Rattle.dav_locks.specs.Token.{is_token_byte as is_token_byte_lem, is_token as is_token_lem, token_of};
 
 use crate::fault::LockFault;
@@ -84,16 +86,29 @@ pub fn is_token(bytes: &[u8]) -> bool
     if bytes.is_empty() || bytes.len() > TOKEN_MAX {
         return false;
     }
-    for byte in bytes {
-        if !is_token_byte(*byte) {
-            return false;
-        }
+    if !are_token_bytes(bytes) {
+        return false;
     }
-    str::from_utf8(bytes).is_ok()
+    is_text(bytes)
+}
+
+fn are_token_bytes(bytes: &[u8]) -> bool
+    ensures { result ≡ list_all is_token_byte_lem bytes.now }
+{
+    bytes.iter().all(|byte| is_token_byte(*byte))
 }
 
 fn is_token_byte(byte: u8) -> bool
     ensures { result ≡ is_token_byte_lem byte }
 {
     byte > b' ' && byte != b'<' && byte != b'>' && byte != 127
+}
+
+fn is_text(bytes: &[u8]) -> bool
+    ensures { result ≡ is_utf8 bytes.now }
+{
+    match str::from_utf8(bytes) {
+        Ok(_) => true,
+        Err(_) => false,
+    }
 }
