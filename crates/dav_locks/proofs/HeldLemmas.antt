@@ -1,6 +1,8 @@
 -- What is held after a call.
-use Rattle.std.proofs.Common.{◌≡◌, ℕ, suc, zero, ◌<◌, ◌≤◌, Bool, true, false, not, ◌||◌, List, [], ◌∷◌, ◌++◌, length, set, inl, inr, refl, sym, ap, ◌∙◌, arith}
-use Rattle.std.specs.Prelude.{bytes_eq, filter}
+use Rattle.std.proofs.Common.{◌≡◌, ℕ, suc, zero, ◌<◌, ◌≤◌, Bool, true, false, not, ◌||◌, List, [], ◌∷◌, ◌++◌, length, set, inl, inr, refl, sym, ap, subst, ◌∙◌, arith}
+use Rattle.std.specs.Prelude.{bytes_eq, filter, Result, Ok, Err, OnOk, OnErr}
+use Rattle.dav_locks.specs.declared.fault.LockFault.{LockFault}
+use Rattle.dav_locks.specs.declared.fault.LockFault.TheVariants.{Full}
 use Rattle.std.proofs.lemmas.Bool.{false≢true, cases_lt}
 use Rattle.std.proofs.lemmas.Slice.Eq.{bytes_eq-Decides}
 use Rattle.dav_locks.specs.Held.{has_token, is_held, without, held, IsFull, Differ, IsStore, tokens, tokens_after}
@@ -167,3 +169,26 @@ tokens_held lock (x ∷ xs) = by (tokens_held lock xs) (has_token lock.token x) 
     by : tokens (held lock xs) ≡ tokens_after lock.token (tokens xs) → (b : Bool) → has_token lock.token x ≡ b → tokens (held lock (x ∷ xs)) ≡ tokens_after lock.token (tokens (x ∷ xs))
     by rest true is = rw is (ap (λ (t : List ℕ). t ∷ tokens xs) (sym (from_eq x.token lock.token is)))
     by rest false is = rw is (ap (λ (ts : List (List ℕ)). x.token ∷ ts) rest)
+
+-- ---- what a place says, where token and locks are read through the code
+
+pub first_there : (said token : List ℕ) (read locks : List Lock) (i : ℕ) → said ≡ token → read ≡ locks → IsFirst (has_token said) read i → IsFirst (has_token token) locks i
+first_there said token read locks i e f first =
+    subst (λ (t : List ℕ). IsFirst (has_token t) locks i) e (subst (λ (xs : List Lock). IsFirst (has_token said) xs i) f first)
+
+pub none_there : (said token : List ℕ) (read locks : List Lock) → said ≡ token → read ≡ locks → NonePasses (has_token said) read → NonePasses (has_token token) locks
+none_there said token read locks e f none =
+    subst (λ (t : List ℕ). NonePasses (has_token t) locks) e (subst (λ (xs : List Lock). NonePasses (has_token said) xs) f none)
+
+pub is_full : (token : List ℕ) (locks : List Lock) → NonePasses (has_token token) locks → 256 ≤ length locks → IsFull token locks
+is_full token locks none many = subst (λ (xs : List Lock). 256 ≤ length xs) (sym (all_without token locks (not_held token locks none))) many
+
+pub has_room : (token : List ℕ) (locks : List Lock) → NonePasses (has_token token) locks → length locks < 256 → IsFull token locks → ⊥
+has_room token locks none few full =
+    let many = subst (λ (xs : List Lock). 256 ≤ length xs) (all_without token locks (not_held token locks none)) full in omega arith
+
+-- a store stays one, whether or not the lock was held
+pub store_after : (result : Result (Unit {0}) LockFault) (lock : Lock) (old new : List Lock) → IsStore old → OnOk result (new ≡ held lock old) → OnErr result (new ≡ old) → (IsFull lock.token old → result ≡ Err Full) → IsStore new
+store_after (Ok u) lock old new store ok err full =
+    subst IsStore (sym ok) (store_held lock old store (λ many. let wrong : Ok u ≡ Err Full = full many in cc))
+store_after (Err fault) lock old new store ok err full = subst IsStore (sym err) store

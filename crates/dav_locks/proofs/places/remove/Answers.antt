@@ -7,4 +7,4 @@ use Rattle.dav_locks.proofs.places.remove.Goals as goal
 
 pub returns : goal.returns
 returns c =
-    filter_same _ (λ (lock : Lock). not (has_token c.args.token.now lock)) _ (λ x b q k. search rules) c.args.locks.old.items c.retain.new.self.items c.retain.ensures.filtered
+    filter_same _ (λ (lock : Lock). not (has_token c.args.token.now lock)) _ (λ x b q k. search rules) c.args.locks.now.items c.retain.new.self.items c.retain.ensures.filtered
