@@ -1,22 +1,21 @@
 -- The text that submits locks is derived by the grammar.
-use Rattle.std.proofs.Common.{◌≡◌, ℕ, Bool, true, false, not, ◌&&◌, ◌||◌, ◌==◌, ltb, List, [], ◌∷◌, ◌++◌, All, refl, sym, ap, ◌∙◌, arith, append_assoc}
-use Rattle.std.specs.Prelude.{IsTrue, codes, map, flat_map}
-use Rattle.std.specs.List.{list_all, AllByRecursion}
-use Rattle.std.proofs.lemmas.Bool.{and_from}
+use Rattle.std.proofs.Common.{◌≡◌, ℕ, Bool, true, false, not, List, [], ◌∷◌, ◌++◌, All, refl, sym, ap, ◌∙◌, arith, append_assoc}
+use Rattle.std.specs.Prelude.{codes, map}
+use Rattle.std.specs.List.{AllByRecursion}
 use Rattle.std.proofs.lemmas.Bool.Decides.{nat_tests}
-use Rattle.std.proofs.lemmas.List.Elements.{All-nil, All-cons, All-append, All-weaker, recursion_from_All}
+use Rattle.std.proofs.lemmas.List.Elements.{All-nil, All-cons, All-append, recursion_from_All}
 use Rattle.std.proofs.lemmas.List.Sums.{list_all-from_AllPass, AllPass-from_list_all}
 use Rattle.percent_encoding.specs.AsciiSet.{should_percent_encode}
 use Rattle.percent_encoding.specs.Percent.{percent_encode}
 use Rattle.percent_encoding.proofs.PercentLemmas.{IsEscapeByte, All-percent_encode}
 use Rattle.dav_text.specs.declared.sets.TheConstants.{ESCAPED}
-use Rattle.dav_text.specs.Path.{PathParts, is_unreserved, escaped_segments, escaped_parts, escaped}
+use Rattle.dav_text.specs.Path.{is_unreserved, escaped_segments, escaped_parts, escaped}
 use Rattle.dav_text.proofs.PathLemmas.{escapes-unless-unreserved}
 use Rattle.dav_uri.specs.Target.{BaseParts}
 use Rattle.dav_uri.specs.Url.{is_url_byte, is_url_text}
 use Rattle.dav_locks.specs.Token.{is_token}
 use Rattle.dav_locks.specs.Grammar.{Condition, IsTagged, If, last, more}
-use Rattle.dav_locks.specs.IfText.{root_url, condition_text, later_text, conditions_text, host_of_base, if_text, conditions, HasToken}
+use Rattle.dav_locks.specs.IfText.{root_url, condition_text, conditions_text, host_of_base, if_text, conditions, HasToken}
 use Rattle.dav_locks.specs.declared.lock.Lock.{Lock}
 
 abbrev IsUrlByte : ℕ → Type 0

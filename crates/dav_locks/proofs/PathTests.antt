@@ -1,10 +1,10 @@
 -- Tests on paths, and what they say.
 use Rattle.std.proofs.Common.{◌≡◌, ℕ, suc, ◌+◌, Bool, true, false, List, [], ◌∷◌, ◌++◌, length, refl, sym, ap, ◌∙◌, IsTrue, arith, length-append, eqb-true, eq-eqb}
-use Rattle.std.specs.Prelude.{◌↔◌, ◌&&◌, ◌||◌, nat_lt, nat_eq}
+use Rattle.std.specs.Prelude.{◌↔◌, ◌&&◌, ◌||◌}
 use Rattle.std.proofs.lemmas.Bool.{false≢true, and_parts, and_from}
 use Rattle.std.proofs.lemmas.Bool.Decides.{Decides-ltb}
 use Rattle.std.proofs.lemmas.Slice.Eq.{slice_eq-Decides, bytes_eq-Decides}
-use Rattle.dav_text.specs.Path.{PathParts, IsSame, IsUnder, IsParent, IsLonger, IsLongerByOne}
+use Rattle.dav_text.specs.Path.{PathParts, IsSame, IsUnder, IsParent}
 use Rattle.dav_text.proofs.ReadLemmas.{longer_from_front, front_from_longer, deeper_from_longer}
 use Rattle.dav_locks.specs.Paths.{same_segments, same_path, is_below, is_child}
 use Rattle.dav_locks.specs.Submitted.{IsSubmitted, direct, from_above, from_below, of_parent, is_infinite, is_of_member, is_submitted}

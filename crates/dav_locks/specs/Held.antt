@@ -1,5 +1,5 @@
 -- The locks that are held, in the order of holding.
-use Rattle.std.specs.Prelude.{◌≡◌, ℕ, ◌≤◌, Bool, false, not, bytes_eq, List, [], ◌∷◌, ◌++◌, length, map, filter, if◌then◌else◌}
+use Rattle.std.specs.Prelude.{◌≡◌, ℕ, ◌≤◌, Bool, false, not, bytes_eq, List, [], ◌∷◌, length, map, filter, if◌then◌else◌}
 use Rattle.std.specs.List.{list_any}
 use Rattle.dav_text.specs.Path.{PathParts}
 use Rattle.dav_locks.specs.Paths.{same_path}
