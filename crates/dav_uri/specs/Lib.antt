@@ -1,2 +1,3 @@
 pub mod Follow
 pub mod Target
+pub mod Url

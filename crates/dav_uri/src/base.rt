@@ -1,6 +1,7 @@
-ghost use Rattle.std.specs.Prelude.{◌≡◌, ◌≢◌, ◌++◌, Ok, Err, IfOk, MatchResult, string_bytes};
+ghost use Rattle.std.specs.Prelude.{◌≡◌, ◌≢◌, ◌++◌, Ok, Err, IfOk, MatchResult, IsTrue, string_bytes};
 ghost use Rattle.url.specs.Parts.{serialize};
-ghost use Rattle.dav_uri.specs.Target.{BaseParts, base_of, base_tested, is_plain as is_plain_lem, is_on as is_on_lem, ends_with_slash as ends_with_slash_lem, with_slash, host_field, target_url};
+ghost use Rattle.dav_uri.specs.Url.{is_url_text};
+ghost use Rattle.dav_uri.specs.Target.{base_of, base_tested, is_plain as is_plain_lem, is_on as is_on_lem, ends_with_slash as ends_with_slash_lem, with_slash, host_of, host_field, target_url};
 
 use crate::fault::UriFault;
 use crate::target::{is_http, parsed, path_in};
@@ -23,9 +24,15 @@ pub struct Base {
 }
 
 impl Model for Base {
+    ghost use Rattle.std.specs.Prelude.{IsTrue};
+    ghost use Rattle.dav_uri.specs.Target.{BaseParts};
+    ghost use Rattle.dav_uri.specs.Url.{is_url_text};
+
     ghost Value = { BaseParts };
 
     ghost view = { λ b. record { host = b.host; port = b.port; path = b.path; text = b.text } };
+
+    ghost invariant = { λ b. IsTrue (is_url_text b.host) };
 }
 
 impl Base {
@@ -45,7 +52,7 @@ impl Base {
         if !is_plain(&url) || text.len() > TEXT_MAX {
             return Err(UriFault::NotAUrl);
         }
-        let host = Text::copy_of(alloc, url.host_str().unwrap_or(""))?;
+        let host = host_of(alloc, &url)?;
         Ok(Base {
             host,
             port: url.port().unwrap_or(80),
@@ -82,18 +89,14 @@ impl Base {
         self.text.as_str()
     }
 
-    /// The value of a Host field: the host, and the port where it isn't 80.
+    /// The value of a Host field: the host, and the port where it isn't 80. It has no blank, no control
+    /// character and no angle bracket.
     pub fn host_field(&self, alloc: Global) -> Result<Text, Memory>
-        ensures { IfOk result (λ text. text ≡ host_field self.now.host self.now.port) }
+        ensures value { IfOk result (λ text. text ≡ host_field self.now.host self.now.port) }
+        ensures plain { IsTrue (is_url_text (host_field self.now.host self.now.port)) }
     {
-        if self.port == 80 {
-            return self.host.copy(alloc);
-        }
-        let mut buffer = Buffer::new();
-        let mut text = String::from_str(alloc, self.host.as_str())?;
-        text.push(':')?;
-        text.push_str(buffer.format(self.port))?;
-        Ok(Text::from_string(text))
+        let port = self.port;
+        field_of(alloc, self.host.as_str(), port)
     }
 
     /// The URL of a path and a query on the server.
@@ -114,6 +117,29 @@ impl Base {
         url.host_str().unwrap_or("").as_bytes() == self.host.as_bytes()
             && url.port().unwrap_or(80) == self.port
     }
+}
+
+// The host of the URL.
+fn host_of(alloc: Global, url: &Url) -> Result<Text, Memory>
+    ensures value { IfOk result (λ text. text ≡ host_of url.now) }
+    ensures plain { IsTrue (is_url_text (host_of url.now)) }
+{
+    let _scheme = url.scheme();
+    Text::copy_of(alloc, url.host_str().unwrap_or(""))
+}
+
+// The value of a Host field.
+fn field_of(alloc: Global, host: &str, port: u16) -> Result<Text, Memory>
+    ensures { IfOk result (λ text. text ≡ host_field host.now port) }
+{
+    if port == 80 {
+        return Text::copy_of(alloc, host);
+    }
+    let mut buffer = Buffer::new();
+    let mut text = String::from_str(alloc, host)?;
+    text.push(':')?;
+    text.push_str(buffer.format(port))?;
+    Ok(Text::from_string(text))
 }
 
 // Whether the URL has no part but scheme, host, port and path.

@@ -1,0 +1,9 @@
+pub mod Grammar
+pub mod Held
+pub mod IfText
+pub mod Paths
+pub mod Places
+pub mod Submitted
+pub mod SubmitsView
+pub mod Timeouts
+pub mod Token
