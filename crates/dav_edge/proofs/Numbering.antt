@@ -2,7 +2,6 @@
 use Rattle.std.proofs.Common.{◌≡◌, ℕ, suc, ◌+◌, List, [], ◌∷◌, Option, Some, None, Bool, true, false, cond, ltb, refl, subst, arith, inl, inr}
 use Rattle.std.proofs.lemmas.Bool.{cases_lt, lt-ltb, le-ltb}
 use Rattle.dav_machine.specs.Log.{TellsMore}
-use Rattle.dav_machine.specs.Machine.{Run, Calls}
 use Rattle.dav_machine.proofs.Reaching.{reaches_next_call}
 use Rattle.dav_edge.specs.Numbers.{NumberGiven, number_given, NumberLog, NumbersGrew, NumberMachine, AsksNumber, ReachesByNumbers}
 use Rattle.dav_edge.specs.Listed.{first_calls, listed_log, one_call_more}

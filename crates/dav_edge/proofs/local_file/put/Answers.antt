@@ -1,4 +1,4 @@
-use Rattle.std.proofs.Common.{◌≡◌, ◌∷◌, [], ◌++◌, List, Some, sym, ap, subst, ◌∙◌, rules}
+use Rattle.std.proofs.Common.{◌≡◌, ◌∷◌, [], ◌++◌, List, Some, ap, ◌∙◌, rules}
 use Rattle.dav_edge.specs.LocalFile.{content_of}
 use Rattle.dav_edge.specs.declared.local_file.LocalFile.{LocalFile}
 use Rattle.dav_edge.proofs.Storing.{put_holds, put_keeps}
