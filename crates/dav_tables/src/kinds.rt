@@ -9,9 +9,11 @@ use crate::files::{
 use crate::heads::{outcome_of_head, outcome_of_kept, outcome_of_size_line, outcome_of_trailers};
 use crate::jobs::outcome_of_job;
 use crate::listings::outcome_of_listing;
+use crate::locals::outcome_of_locals;
 use crate::logins::{
     outcome_of_challenge, outcome_of_info, outcome_of_login, outcome_of_server_proof,
 };
+use crate::numbers::outcome_of_numbers;
 use crate::paths::{outcome_of_path, outcome_of_two_paths, outcome_of_typed};
 use crate::records::{outcome_of_bounds, outcome_of_entry, outcome_of_record, outcome_of_table};
 use crate::replies::outcome_of_reply;
@@ -52,6 +54,8 @@ pub fn is_setting(kind: &str, word: &str) -> bool {
         "source" => matches!(word, "bytes" | "takes" | "cuts" | "fails"),
         "sink" => matches!(word, "takes" | "fails"),
         "wire" => matches!(word, "stream" | "takes" | "cuts" | "fails"),
+        "numbers" => matches!(word, "numbers"),
+        "locals" => matches!(word, "file" | "fails"),
         "disk" => matches!(word, "fails" | "moment"),
         "desk" => matches!(word, "file" | "show"),
         "job" => matches!(word, "before"),
@@ -105,6 +109,8 @@ pub fn outcome_of(alloc: Global, case: &Case<'_>) -> Result<Vec<u8>, RowFault> {
         "source" => outcome_of_source(alloc, case),
         "sink" => outcome_of_sink(alloc, case),
         "wire" => outcome_of_wire(alloc, case),
+        "numbers" => outcome_of_numbers(alloc, case),
+        "locals" => outcome_of_locals(alloc, case),
         "disk" => outcome_of_disk(alloc, case),
         "desk" => outcome_of_desk(alloc, case),
         "job" => outcome_of_job(alloc, case),
