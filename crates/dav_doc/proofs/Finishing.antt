@@ -6,7 +6,7 @@ use Rattle.dav_doc.specs.Bytes.{Letter, sort}
 use Rattle.dav_doc.specs.Characters.{Owed, Whole, owed_by}
 use Rattle.dav_doc.specs.Names.{written, Byte}
 use Rattle.dav_doc.specs.Document.{Event, Char, target_next}
-use Rattle.dav_doc.specs.Machine.{Open, Brackets, Zero, One, Two, State, Begin, MarkSecond, MarkThird, Return, Opening, DeclareX, DeclareXm, DeclareXml, Declaring, Question, InTarget, TargetEnd, InInstruction, InstructionEnd, SectionWord, InSection, Outside, Text, Markup, Mark, OpenComment, InComment, CommentDash, CommentClose, InReference, InName, InTag, EmptyTag, AtName, BeforeEquals, AfterEquals, InValue, ValueReference, InEnd, EndBlanks, To, on, brackets, ends_section, text_by, text_step, held, section_step, target_step, longer, name_next, name_step, attribute_step, with_part, value_step, step}
+use Rattle.dav_doc.specs.Machine.{Open, Brackets, Zero, One, Two, State, Begin, MarkSecond, MarkThird, Return, Opening, DeclareX, DeclareXm, DeclareXml, Declaring, Question, InTarget, TargetEnd, InInstruction, InstructionEnd, SectionWord, InSection, SectionReturn, Outside, Text, Markup, Mark, OpenComment, InComment, CommentDash, CommentClose, InReference, InName, InTag, EmptyTag, AtName, BeforeEquals, AfterEquals, InValue, ValueReference, InEnd, EndBlanks, To, on, brackets, ends_section, text_by, text_step, held, section_plain, section_step, target_step, longer, name_next, name_step, attribute_step, with_part, value_step, step}
 use Rattle.dav_doc.proofs.Meaning.{IsSound}
 use Rattle.dav_doc.proofs.KindFacts.{and_both}
 use Rattle.dav_doc.proofs.Runs.{Goes, goes_cons, goes_by}
@@ -22,6 +22,7 @@ Takes (InComment p) = Unit {0}
 Takes (InTarget p t) = Unit {0}
 Takes (InInstruction p) = Unit {0}
 Takes (InSection x os n) = Unit {0}
+Takes (SectionReturn x os) = Unit {0}
 Takes (InName os n) = Unit {0}
 Takes (AtName os t w n) = Unit {0}
 Takes (InValue os t a) = Unit {0}
@@ -38,10 +39,16 @@ no_end Zero = refl
 no_end One = refl
 no_end Two = refl
 
-section_letter : (x : Open) (os : List Open) (n : Brackets) (b : ℕ) → section_step x os n b false false ≡ To (InSection x os Zero) (held n ++ (Char b ∷ []))
+section_letter : (x : Open) (os : List Open) (n : Brackets) (b : ℕ) → section_step x os n b false false ≡ section_plain x os n b (b == 13)
 section_letter x os Zero b = refl
 section_letter x os One b = refl
 section_letter x os Two b = refl
+
+section_wide : (x : Open) (os : List Open) (n : Brackets) (b : ℕ) → is_wide b ≡ true
+    → section_step x os n b (b == 93) (b == 62) ≡ To (InSection x os Zero) (held n ++ (Char b ∷ []))
+section_wide x os n b w =
+    ap (λ z. section_step x os n b z (b == 62)) (wide_not b 93 w refl) ∙ ap (λ z. section_step x os n b false z) (wide_not b 62 w refl)
+    ∙ section_letter x os n b ∙ ap (section_plain x os n b) (wide_not b 13 w refl)
 
 taken : (st : State) (b : ℕ) → Takes st → is_wide b ≡ true → Taken st b
 taken (Text (x ∷ os) n) b h w = record {
@@ -66,7 +73,13 @@ taken (InInstruction p) b h w = record {
 taken (InSection x os n) b h w = record {
   next = InSection x os Zero;
   events = held n ++ (Char b ∷ []);
-  moves = ap (λ z. section_step x os n b z (b == 62)) (wide_not b 93 w refl) ∙ ap (λ z. section_step x os n b false z) (wide_not b 62 w refl) ∙ section_letter x os n b;
+  moves = section_wide x os n b w;
+  takes = tt;
+}
+taken (SectionReturn x os) b h w = record {
+  next = InSection x os Zero;
+  events = Char b ∷ [];
+  moves = ap (λ z. on z (To (InSection x os Zero) []) (section_step x os Zero b (b == 93) (b == 62))) (wide_not b 10 w refl) ∙ section_wide x os Zero b w;
   takes = tt;
 }
 taken (InName os n) b h w = record {
@@ -160,6 +173,7 @@ completed (InInstruction p) o h w f = by_bytes (InInstruction p) o tt f
 completed (InstructionEnd p) o h w f = nothing_owed (InstructionEnd p) o w.1
 completed (SectionWord x os came c left) o h w f = nothing_owed (SectionWord x os came c left) o w.1
 completed (InSection x os n) o h w f = by_bytes (InSection x os n) o tt f
+completed (SectionReturn x os) o h w f = by_bytes (SectionReturn x os) o tt f
 completed (InReference x os r) o h w f = nothing_owed (InReference x os r) o w.1
 completed (InName os n) o h w f = by_bytes (InName os n) o tt f
 completed (InTag os t v) o h w f = nothing_owed (InTag os t v) o w.1

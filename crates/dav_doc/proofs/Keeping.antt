@@ -10,7 +10,7 @@ use Rattle.dav_doc.specs.Names.{Name, written, is_name, Attribute, resolved, is_
 use Rattle.dav_doc.specs.Document.{Event, Tag, Target, X, Xm, Xml, is_target}
 use Rattle.dav_doc.specs.References.{stands_for, may_stand}
 use Rattle.dav_doc.specs.Words.{Want, Done, One_of, Space, Spaces, Either, want}
-use Rattle.dav_doc.specs.Machine.{Open, Brackets, Zero, One, Two, Place, First, Before, Below, State, Begin, MarkSecond, MarkThird, Return, Opening, DeclareX, DeclareXm, DeclareXml, Declaring, Question, InTarget, TargetEnd, InInstruction, InstructionEnd, SectionWord, InSection, Outside, Text, Markup, Mark, OpenComment, InComment, CommentDash, CommentClose, InReference, InName, InTag, EmptyTag, AtName, BeforeEquals, AfterEquals, InValue, ValueReference, InEnd, EndBlanks, Move, Bad, To, on, at, scope_of, begin_step, outside_step, epilog_step, ends_section, text_by, text_step, end_next, slash_step, letter_step, markup_step, section_next, section_begins, section_step, question_first, question_step, target_step, declare_state, declare_step, name_next, opened, slashed, attribute_begins, tag_step, empty_step, name_step, equals_step, attribute_step, quote_step, value_step, reference_step, value_reference_step, end_step, step, Ran, gives, move_on, run}
+use Rattle.dav_doc.specs.Machine.{Open, Brackets, Zero, One, Two, Place, First, Before, Below, State, Begin, MarkSecond, MarkThird, Return, Opening, DeclareX, DeclareXm, DeclareXml, Declaring, Question, InTarget, TargetEnd, InInstruction, InstructionEnd, SectionWord, InSection, SectionReturn, Outside, Text, Markup, Mark, OpenComment, InComment, CommentDash, CommentClose, InReference, InName, InTag, EmptyTag, AtName, BeforeEquals, AfterEquals, InValue, ValueReference, InEnd, EndBlanks, Move, Bad, To, on, at, scope_of, begin_step, outside_step, epilog_step, ends_section, text_by, text_step, end_next, slash_step, letter_step, markup_step, section_next, section_begins, section_plain, section_step, question_first, question_step, target_step, declare_state, declare_step, name_next, opened, slashed, attribute_begins, tag_step, empty_step, name_step, equals_step, attribute_step, quote_step, value_step, reference_step, value_reference_step, end_step, step, Ran, gives, move_on, run}
 use Rattle.dav_doc.proofs.Meaning.{is_front, IsSound}
 use Rattle.dav_doc.proofs.KindFacts.{IsKind, is_kind, and_both}
 use Rattle.dav_doc.proofs.Sounding.{LeadsBy, grows}
@@ -168,14 +168,18 @@ section_begins_kept o n (Below []) b w c = tt
 section_begins_kept o n (Below (x ∷ os)) b w c =
     on_or_bad n (b == 91) _ (λ e. section_next_kept n x os [] (codes "CDATA[") w (calm_at o n b 91 c refl e))
 
+section_plain_kept : (n : Owed) (x : Open) (os : List Open) (m : Brackets) (b : ℕ) (y : Bool) → AreWhole (x ∷ os) → KeptBy n (section_plain x os m b y)
+section_plain_kept n x os m b true w = w
+section_plain_kept n x os m b false w = w
+
 section_kept : (n : Owed) (x : Open) (os : List Open) (m : Brackets) (b : ℕ) (y z : Bool) → AreWhole (x ∷ os) → KeptBy n (section_step x os m b y z)
 section_kept n x os Zero b true z w = w
 section_kept n x os One b true z w = w
 section_kept n x os Two b true z w = w
 section_kept n x os Two b false true w = w
-section_kept n x os Zero b false z w = w
-section_kept n x os One b false z w = w
-section_kept n x os Two b false false w = w
+section_kept n x os Zero b false z w = section_plain_kept n x os Zero b (b == 13) w
+section_kept n x os One b false z w = section_plain_kept n x os One b (b == 13) w
+section_kept n x os Two b false false w = section_plain_kept n x os Two b (b == 13) w
 
 -- a byte of the word CDATA
 word_narrow : (came : List ℕ) (c : ℕ) (left : List ℕ) → codes "CDATA[" ≡ came ++ (c ∷ left) → is_wide c ≡ false
@@ -388,6 +392,7 @@ keeps (InstructionEnd p) b o n h w c =
 keeps (SectionWord x os came d left) b o n h w c =
     on_or_bad n (b == d) _ (λ e. section_next_kept n x os (came ++ (d ∷ [])) left w.0 (calm_at o n b d c (word_narrow came d left h) e))
 keeps (InSection x os m) b o n h w c = section_kept n x os m b (b == 93) (b == 62) w
+keeps (SectionReturn x os) b o n h w c = on_kept n (b == 10) _ _ (λ e. w) (λ e. section_kept n x os Zero b (b == 93) (b == 62) w)
 keeps (InReference x os r) b o n h w c = reference_kept o n x os r b (stands_for (r ++ (b ∷ []))) w.0 c
 keeps (InName os m) b o n h w c = name_kept o n os m b (kind b) (name_next m b (kind b)) (is_kind b) h refl w.0 w.1 c (calm o n b c)
 keeps (InTag os t v) b o n h w c = tag_kept o n os t v b (kind b) w.0 w.1 c (calm o n b c)

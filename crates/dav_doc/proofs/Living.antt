@@ -8,7 +8,7 @@ use Rattle.dav_doc.specs.Names.{Name, Plain, Qualified, written, local_of, is_pl
 use Rattle.dav_doc.specs.Document.{Event, Start, End, Tag, attributes_text, end_tag, Target, Unlike, X, Xm, Xml, target_next, is_target}
 use Rattle.dav_doc.specs.References.{may_stand, may_name, may_number}
 use Rattle.dav_doc.specs.Words.{Want, Done, One_of, Space, Spaces, Either, want}
-use Rattle.dav_doc.specs.Machine.{Open, Brackets, Zero, One, Two, Place, First, Before, Below, State, Begin, MarkSecond, MarkThird, Return, Opening, DeclareX, DeclareXm, DeclareXml, Declaring, Question, InTarget, TargetEnd, InInstruction, InstructionEnd, SectionWord, InSection, declare_state, declare_step, Outside, Text, Markup, Mark, OpenComment, InComment, CommentDash, CommentClose, InReference, InName, InTag, EmptyTag, AtName, BeforeEquals, AfterEquals, InValue, ValueReference, InEnd, EndBlanks, Bad, To, at, scope_of, chars, on, longer, with_attribute, with_part, value_step, step, Ran, gives, run}
+use Rattle.dav_doc.specs.Machine.{Open, Brackets, Zero, One, Two, Place, First, Before, Below, State, Begin, MarkSecond, MarkThird, Return, Opening, DeclareX, DeclareXm, DeclareXml, Declaring, Question, InTarget, TargetEnd, InInstruction, InstructionEnd, SectionWord, InSection, SectionReturn, declare_state, declare_step, Outside, Text, Markup, Mark, OpenComment, InComment, CommentDash, CommentClose, InReference, InName, InTag, EmptyTag, AtName, BeforeEquals, AfterEquals, InValue, ValueReference, InEnd, EndBlanks, Bad, To, at, scope_of, chars, on, longer, with_attribute, with_part, value_step, step, Ran, gives, run}
 use Rattle.dav_doc.proofs.Meaning.{is_solid, is_good, is_front, IsTagFront, IsNameFront, IsEqualsFront, IsValueFront, MayStand, IsSound}
 use Rattle.std.specs.Prelude.{bytes_eq, codes, cond}
 use Rattle.dav_doc.proofs.KindFacts.{and_both, same, eqb-same}
@@ -640,6 +640,7 @@ lives (InInstruction p) h w = instruction_lives p w
 lives (InstructionEnd p) h w = before (InstructionEnd p) (at p) 62 refl refl (at_lives p (λ k. (w k).0))
 lives (SectionWord o os came c left) h w = section_word_lives o os came c left h (λ k. (w k).0)
 lives (InSection o os n) h w = any_section_lives o os n w
+lives (SectionReturn o os) h w = before (SectionReturn o os) (InSection o os One) 93 refl refl (any_section_lives o os One w)
 lives (InReference o os r) h w = reference_lives o os r h (λ k. (w k).0)
 lives (InName os n) h w = name_lives os n h (λ k. (w k).0) (λ k. (w k).1)
 lives (InTag os t v) h w = any_lives (InTag os t v) (tag_lives os t v h (λ k. (w k).0))

@@ -3,9 +3,9 @@ use Rattle.std.proofs.Common.{◌≡◌, ℕ, ◌<◌, Bool, true, false, ◌&&�
 use Rattle.std.specs.Prelude.{◌==◌}
 use Rattle.std.proofs.lemmas.Bool.{eqb-true}
 use Rattle.dav_doc.specs.Bytes.{Kind, Less, Ampersand, Blank, Greater, DoubleQuote, SingleQuote, Equals, Slash, Colon, Exclamation, Letter, Digit, Other, kind, name_kind, blank_kind, in_name, blank, begins_greater, begins_bracket, begins_end}
-use Rattle.dav_doc.specs.Document.{Event, Char, CommentRest, closed, byte, dashed, InstructionRest, ended_here, kept, Target, Unlike, X, Xm, Xml, target_first, target_next, is_target, TargetRest, named, bare, spaced, Instruction, instruction_of, SectionRest, section_ends, section_byte, section_open, begins_close}
+use Rattle.dav_doc.specs.Document.{Event, Char, CommentRest, closed, byte, dashed, InstructionRest, ended_here, kept, Target, Unlike, X, Xm, Xml, target_first, target_next, is_target, TargetRest, named, bare, spaced, Instruction, instruction_of, SectionRest, section_ends, section_byte, section_line, section_return, section_open, begins_close, begins_feed}
 use Rattle.dav_doc.specs.Words.{Want, Done, One_of, Space, Spaces, Either, Words, done, one_of, space as words_space, further_space, no_space, this, other, version, declaration, want}
-use Rattle.dav_doc.specs.Machine.{Open, Brackets, Zero, One, Two, Place, First, Before, Below, State, Opening, DeclareX, DeclareXm, DeclareXml, Declaring, Question, InTarget, TargetEnd, InInstruction, InstructionEnd, SectionWord, InSection, section_next, section_step, question_first, question_step, target_step, declare_state, declare_step, Outside, Text, Markup, Mark, OpenComment, InComment, CommentDash, CommentClose, Bad, To, at, chars, on, step, Ran, gives, move_on, run}
+use Rattle.dav_doc.specs.Machine.{Open, Brackets, Zero, One, Two, Place, First, Before, Below, State, Opening, DeclareX, DeclareXm, DeclareXml, Declaring, Question, InTarget, TargetEnd, InInstruction, InstructionEnd, SectionWord, InSection, SectionReturn, section_next, section_plain, section_step, question_first, question_step, target_step, declare_state, declare_step, Outside, Text, Markup, Mark, OpenComment, InComment, CommentDash, CommentClose, Bad, To, at, chars, on, step, Ran, gives, move_on, run}
 use Rattle.std.specs.Prelude.{codes, cond}
 use Rattle.dav_doc.proofs.KindFacts.{eqb-same}
 use Rattle.dav_doc.proofs.Runs.{Goes, goes_cons, goes_by}
@@ -174,9 +174,20 @@ gives_more : (e f : List Event) (x : Option Ran) → gives (e ++ f) x ≡ gives 
 gives_more e f None = refl
 gives_more e f (Some r) = ap (λ z. Some (record { state = r.state; events = z })) (append_assoc e f r.events)
 
+-- what a byte that ends nothing gives behind one `]`, and behind two
+one_plain : (o : Open) (os : List Open) (b : ℕ) (s : List ℕ) (x : Bool)
+    → move_on (section_plain o os One b x) (run s) ≡ gives (Char 93 ∷ []) (move_on (section_plain o os Zero b x) (run s))
+one_plain o os b s true = gives_more (Char 93 ∷ []) (Char 10 ∷ []) (run s (SectionReturn o os))
+one_plain o os b s false = gives_more (Char 93 ∷ []) (Char b ∷ []) (run s (InSection o os Zero))
+
+two_plain : (o : Open) (os : List Open) (b : ℕ) (s : List ℕ) (x : Bool)
+    → move_on (section_plain o os Two b x) (run s) ≡ gives (Char 93 ∷ []) (move_on (section_plain o os One b x) (run s))
+two_plain o os b s true = gives_more (Char 93 ∷ []) (Char 93 ∷ Char 10 ∷ []) (run s (SectionReturn o os))
+two_plain o os b s false = gives_more (Char 93 ∷ []) (Char 93 ∷ Char b ∷ []) (run s (InSection o os Zero))
+
 one_same : (o : Open) (os : List Open) (b : ℕ) (s : List ℕ) → (b == 93) ≡ false → run (b ∷ s) (InSection o os One) ≡ gives (Char 93 ∷ []) (run (b ∷ s) (InSection o os Zero))
 one_same o os b s h =
-    ap (λ z. move_on (section_step o os One b z (b == 62)) (run s)) h ∙ gives_more (Char 93 ∷ []) (Char b ∷ []) (run s (InSection o os Zero))
+    ap (λ z. move_on (section_step o os One b z (b == 62)) (run s)) h ∙ one_plain o os b s (b == 13)
     ∙ sym (ap (λ z. gives (Char 93 ∷ []) (move_on (section_step o os Zero b z (b == 62)) (run s))) h)
 
 two_by : (o : Open) (os : List Open) (b : ℕ) (s : List ℕ) (x : Bool) → (b == 93) ≡ x → (b == 62) ≡ false
@@ -186,12 +197,14 @@ two_by o os b s true h k =
     ∙ sym (ap (λ z. gives (Char 93 ∷ []) (move_on (section_step o os One b z (b == 62)) (run s))) h)
 two_by o os b s false h k =
     ap (λ z. move_on (section_step o os Two b z (b == 62)) (run s)) h ∙ ap (λ z. move_on (section_step o os Two b false z) (run s)) k
-    ∙ gives_more (Char 93 ∷ []) (Char 93 ∷ Char b ∷ []) (run s (InSection o os Zero))
+    ∙ two_plain o os b s (b == 13)
     ∙ sym (ap (λ z. gives (Char 93 ∷ []) (move_on (section_step o os One b z (b == 62)) (run s))) h)
 
 section_long : {d s : List ℕ} → SectionRest d s → 2 < length s
 section_long section_ends = omega arith
-section_long (section_byte {s = s} b h i) = let k = section_long i in omega arith
+section_long (section_byte {s = s} b r h i) = let k = section_long i in omega arith
+section_long (section_line {s = s} i) = let k = section_long i in omega arith
+section_long (section_return {s = s} h i) = let k = section_long i in omega arith
 
 gives_swap : (x : Event) (r : Option Ran) → gives [] (gives (x ∷ []) r) ≡ gives (x ∷ []) (gives [] r)
 gives_swap x None = refl
@@ -215,16 +228,21 @@ one_goes o os [] s lt h = absurd (omega arith)
 one_goes o os (b ∷ []) s lt h = absurd (omega arith)
 one_goes o os (b ∷ d ∷ r) s lt h = one_next o os b d r s (b == 93) refl h
 
-section_by : (o : Open) (os : List Open) (b : ℕ) (x : Bool) (r s : List ℕ) (c : State) (e : List Event) → (b == 93) ≡ x → begins_end (b ∷ r) ≡ false → 1 < length r
+section_by : (o : Open) (os : List Open) (b : ℕ) (x : Bool) (r s : List ℕ) (c : State) (e : List Event) → (b == 93) ≡ x → (b == 13) ≡ false → begins_end (b ∷ r) ≡ false → 1 < length r
     → Goes (InSection o os Zero) (r ++ s) c e → Goes (InSection o os Zero) (b ∷ (r ++ s)) c (Char b ∷ e)
-section_by o os b false r s c e h k lt g =
-    goes_cons (InSection o os Zero) (InSection o os Zero) c b (r ++ s) (Char b ∷ []) e (ap (λ z. section_step o os Zero b z (b == 62)) h) g
-section_by o os b true r s c e h k lt g =
+section_by o os b false r s c e h u k lt g =
+    goes_cons (InSection o os Zero) (InSection o os Zero) c b (r ++ s) (Char b ∷ []) e (ap (λ z. section_step o os Zero b z (b == 62)) h ∙ ap (section_plain o os Zero b) u) g
+section_by o os b true r s c e h u k lt g =
     let f : b ≡ 93 = eqb-true b 93 h in
     let k2 : begins_bracket r ≡ false = and_after (b == 93) (begins_bracket r) h k in
     ap (λ z. move_on (section_step o os Zero b z (b == 62)) (run (r ++ s))) h
     ∙ ap (gives []) (one_goes o os r s lt k2 ∙ ap (gives (Char 93 ∷ [])) g)
     ∙ ap (λ z. Some (record { state = c; events = Char z ∷ e })) (sym f)
+
+-- after CR, where no LF follows
+section_lone : (o : Open) (os : List Open) (r s : List ℕ) → 1 < length r → begins_feed r ≡ false → run (r ++ s) (SectionReturn o os) ≡ run (r ++ s) (InSection o os Zero)
+section_lone o os [] s lt h = absurd (omega arith)
+section_lone o os (b ∷ r) s lt h = ap (λ z. move_on (on z (To (InSection o os Zero) []) (section_step o os Zero b (b == 93) (b == 62))) (run (r ++ s))) h
 
 pub section_goes : {d r : List ℕ} → SectionRest d r → (o : Open) (os : List Open) (s : List ℕ) (c : State) (e : List Event) → Goes (Text (o ∷ os) Zero) s c e
     → Goes (InSection o os Zero) (r ++ s) c (chars d ++ e)
@@ -232,9 +250,16 @@ section_goes section_ends o os s c e g =
     goes_cons (InSection o os Zero) (InSection o os One) c 93 (93 ∷ 62 ∷ s) [] e refl
     (goes_cons (InSection o os One) (InSection o os Two) c 93 (62 ∷ s) [] e refl
     (goes_cons (InSection o os Two) (Text (o ∷ os) Zero) c 62 s [] e refl g))
-section_goes (section_byte {d = d} {s = r} b h i) o os s c e g =
+section_goes (section_byte {d = d} {s = r} b u h i) o os s c e g =
     let l : 2 < length r = section_long i in
-    section_by o os b (b == 93) r s c (chars d ++ e) refl h (omega arith) (section_goes i o os s c e g)
+    section_by o os b (b == 93) r s c (chars d ++ e) refl u h (omega arith) (section_goes i o os s c e g)
+section_goes (section_line {d = d} {s = r} i) o os s c e g =
+    goes_cons (InSection o os Zero) (SectionReturn o os) c 13 (10 ∷ (r ++ s)) (Char 10 ∷ []) (chars d ++ e) refl
+    (goes_cons (SectionReturn o os) (InSection o os Zero) c 10 (r ++ s) [] (chars d ++ e) refl (section_goes i o os s c e g))
+section_goes (section_return {d = d} {s = r} h i) o os s c e g =
+    let l : 2 < length r = section_long i in
+    goes_cons (InSection o os Zero) (SectionReturn o os) c 13 (r ++ s) (Char 10 ∷ []) (chars d ++ e) refl
+    (section_lone o os r s (omega arith) h ∙ section_goes i o os s c e g)
 
 pub word_goes : (o : Open) (os : List Open) (came left s : List ℕ) (c : State) (e : List Event)
     → Goes (InSection o os Zero) s c e → Goes (section_next o os came left) (left ++ s) c e

@@ -5,7 +5,7 @@ use Rattle.dav_doc.specs.Names.{Name, Plain, Qualified, written, is_plain, is_na
 use Rattle.dav_doc.specs.Document.{Forest, Event, Char, End, events, Content, Around, Rooted, Declared, Spells, Tag, IsTag, tag_text, end_tag, CommentRest, InstructionRest, TargetRest, SectionRest}
 use Rattle.dav_doc.specs.References.{may_stand}
 use Rattle.dav_doc.specs.Words.{Want, Done, One_of, Space, Spaces, Either, Words}
-use Rattle.dav_doc.specs.Machine.{Open, Brackets, Zero, One, Two, Place, First, Before, Below, State, Begin, MarkSecond, MarkThird, Return, Opening, DeclareX, DeclareXm, DeclareXml, Declaring, Question, InTarget, TargetEnd, InInstruction, InstructionEnd, SectionWord, InSection, chars, Outside, Text, Markup, Mark, OpenComment, InComment, CommentDash, CommentClose, InReference, InName, InTag, EmptyTag, AtName, BeforeEquals, AfterEquals, InValue, ValueReference, InEnd, EndBlanks, scope_of}
+use Rattle.dav_doc.specs.Machine.{Open, Brackets, Zero, One, Two, Place, First, Before, Below, State, Begin, MarkSecond, MarkThird, Return, Opening, DeclareX, DeclareXm, DeclareXml, Declaring, Question, InTarget, TargetEnd, InInstruction, InstructionEnd, SectionWord, InSection, SectionReturn, chars, Outside, Text, Markup, Mark, OpenComment, InComment, CommentDash, CommentClose, InReference, InName, InTag, EmptyTag, AtName, BeforeEquals, AfterEquals, InValue, ValueReference, InEnd, EndBlanks, scope_of}
 
 -- the rest holds what is left of an element, its end tag, and then what comes after it
 pub record Inside (o : Open) (d : ℕ) (After : List ℕ → List Event → Type 0) (s : List ℕ) (e : List Event) : Type 0 where
@@ -131,6 +131,7 @@ FromState (SectionWord o os came c left) s e = FromOpen (o ∷ os) (60 ∷ 33 �
 FromState (InSection o os Zero) s e = Sections [] o os s e
 FromState (InSection o os One) s e = Sections (93 ∷ []) o os s e
 FromState (InSection o os Two) s e = Sections (93 ∷ 93 ∷ []) o os s e
+FromState (SectionReturn o os) s e = Sections (13 ∷ []) o os s (Char 10 ∷ e)
 FromState (InReference o os r) s e = FromOpen (o ∷ os) (38 ∷ (r ++ s)) e
 FromState (InName os n) s e = Here os (60 ∷ (written n ++ s)) e
 FromState (InTag os t w) s e = Here os (60 ∷ (tag_text t ++ (w ++ s))) e
@@ -225,6 +226,7 @@ IsSound (InInstruction p) = Unit {0}
 IsSound (InstructionEnd p) = Unit {0}
 IsSound (SectionWord o os came c left) = codes "CDATA[" ≡ came ++ (c ∷ left)
 IsSound (InSection o os n) = Unit {0}
+IsSound (SectionReturn o os) = Unit {0}
 IsSound (InReference o os r) = MayStand r
 IsSound (InName os n) = is_front n ≡ true
 IsSound (InTag os t w) = IsTagFront t w

@@ -5,11 +5,11 @@ use Rattle.std.specs.List.{list_all}
 use Rattle.std.proofs.lemmas.Bool.{eqb-true}
 use Rattle.dav_doc.specs.Bytes.{Kind, Less, Ampersand, Blank, Greater, DoubleQuote, SingleQuote, Equals, Slash, Colon, Exclamation, Letter, Digit, Other, kind, letter_kind, name_kind, text_kind, blank_kind, starts_name, in_name, in_text, blank, begins_greater, begins_bracket, begins_end}
 use Rattle.dav_doc.specs.Names.{Name, Plain, Qualified, written, is_plain}
-use Rattle.dav_doc.specs.Document.{Forest, Chars, Event, Char, End, said, events, end_tag, CommentRest, closed, byte, dashed, ended_here, kept, Target, X, Xm, Xml, target_first, target_next, is_target, TargetRest, named, bare, spaced, Instruction, instruction_of, SectionRest, section_ends, section_byte, section_open, begins_close, text, reference, comment, instruction, section, space, remark, advice, begins_feed, line_end, lone_return}
+use Rattle.dav_doc.specs.Document.{Forest, Chars, Event, Char, End, said, events, end_tag, CommentRest, closed, byte, dashed, ended_here, kept, Target, X, Xm, Xml, target_first, target_next, is_target, TargetRest, named, bare, spaced, Instruction, instruction_of, SectionRest, section_ends, section_byte, section_line, section_return, section_open, begins_close, text, reference, comment, instruction, section, space, remark, advice, begins_feed, line_end, lone_return}
 use Rattle.dav_doc.specs.References.{stands_for, may_stand}
 use Rattle.dav_doc.specs.Words.{Want, Done, One_of, Space, Spaces, Either, Words, done, one_of, space as words_space, further_space, no_space, this, other, version, want}
-use Rattle.dav_doc.specs.Machine.{Open, Brackets, Zero, One, Two, Place, First, Before, Below, State, Begin, MarkSecond, MarkThird, Return, Opening, DeclareX, DeclareXm, DeclareXml, Declaring, Question, InTarget, TargetEnd, InInstruction, InstructionEnd, SectionWord, InSection, begin_step, section_next, section_begins, section_step, question_first, question_step, target_step, declare_state, declare_step, Outside, Text, Mark, OpenComment, InComment, CommentDash, CommentClose, InReference, Move, Bad, To, at, chars, outside_step, epilog_step, bracket_by, ends_section, text_by, text_step, on, longer, digit_longer, colon_longer, name_next, reference_step}
-use Rattle.dav_doc.proofs.Meaning.{is_solid, is_good, FromOpen, FromRoot, FromDocument, FromMark, FromPlace, FromNext, Passes, Declares, Free, FromState, is_front, IsSound}
+use Rattle.dav_doc.specs.Machine.{Open, Brackets, Zero, One, Two, Place, First, Before, Below, State, Begin, MarkSecond, MarkThird, Return, Opening, DeclareX, DeclareXm, DeclareXml, Declaring, Question, InTarget, TargetEnd, InInstruction, InstructionEnd, SectionWord, InSection, SectionReturn, begin_step, section_next, section_begins, held, section_plain, section_step, question_first, question_step, target_step, declare_state, declare_step, Outside, Text, Mark, OpenComment, InComment, CommentDash, CommentClose, InReference, Move, Bad, To, at, chars, outside_step, epilog_step, bracket_by, ends_section, text_by, text_step, on, longer, digit_longer, colon_longer, name_next, reference_step}
+use Rattle.dav_doc.proofs.Meaning.{is_solid, is_good, FromOpen, FromRoot, FromDocument, FromMark, FromPlace, FromNext, Passes, Sections, Declares, Free, FromState, is_front, IsSound}
 use Rattle.dav_doc.proofs.KindFacts.{IsKind, is_kind, all_more, put, and_both, and_of}
 
 -- a move leads where the rest does
@@ -605,6 +605,68 @@ not_end b s e = ap (λ z. z && begins_bracket s) e
 not_bracket : (b : ℕ) (s : List ℕ) → (b == 93) ≡ false → begins_bracket (b ∷ s) ≡ false
 not_bracket b s e = ap (λ z. z && begins_greater s) e
 
+-- a byte behind brackets that end nothing
+abbrev bracket_bytes : Brackets → List ℕ
+bracket_bytes Zero = []
+bracket_bytes One = 93 ∷ []
+bracket_bytes Two = 93 ∷ 93 ∷ []
+
+abbrev EndsNot : Brackets → ℕ → Type 0
+EndsNot Zero b = Unit {0}
+EndsNot One b = Unit {0}
+EndsNot Two b = (b == 62) ≡ false
+
+return_ends_not : (n : Brackets) → EndsNot n 13
+return_ends_not Zero = tt
+return_ends_not One = tt
+return_ends_not Two = refl
+
+behind_brackets : (n : Brackets) (b : ℕ) (m t : List ℕ) → (b == 93) ≡ false → EndsNot n b → SectionRest m (b ∷ t)
+    → SectionRest (bracket_bytes n ++ m) (bracket_bytes n ++ (b ∷ t))
+behind_brackets Zero b m t e f i = i
+behind_brackets One b m t e f i = section_byte 93 refl (not_bracket b t e) i
+behind_brackets Two b m t e f i = section_byte 93 refl f (section_byte 93 refl (not_bracket b t e) i)
+
+held_gives : (n : Brackets) (b : ℕ) (d then : List Event) (m : List ℕ) → Char b ∷ d ≡ chars m ++ then
+    → (held n ++ (Char b ∷ [])) ++ d ≡ chars (bracket_bytes n ++ m) ++ then
+held_gives Zero b d then m h = h
+held_gives One b d then m h = ap (λ z. Char 93 ∷ z) h
+held_gives Two b d then m h = ap (λ z. Char 93 ∷ Char 93 ∷ z) h
+
+from_section : (o : Open) (os : List Open) (n : Brackets) (s : List ℕ) (e : List Event) → Sections (bracket_bytes n) o os s e → FromState (InSection o os n) s e
+from_section o os Zero s e i = i
+from_section o os One s e i = i
+from_section o os Two s e i = i
+
+section_plain_leads : (o : Open) (os : List Open) (n : Brackets) (b : ℕ) (x : Bool) → (b == 13) ≡ x → (b == 93) ≡ false → EndsNot n b
+    → LeadsBy (InSection o os n) b (section_plain o os n b x)
+section_plain_leads o os n b false u e f = (
+  tt,
+  λ s d from. from_section o os n (b ∷ s) ((held n ++ (Char b ∷ [])) ++ d) (record {
+    said = bracket_bytes n ++ (b ∷ from.said);
+    text = b ∷ from.text;
+    later = from.later;
+    then = from.then;
+    is = behind_brackets n b (b ∷ from.said) from.text e f (section_byte b u (not_end b from.text e) from.is);
+    split = ap (λ z. b ∷ z) from.split;
+    after = from.after;
+    gives = held_gives n b d from.then (b ∷ from.said) (ap (λ z. Char b ∷ z) from.gives);
+  }),
+)
+section_plain_leads o os n b true u e f = (
+  tt,
+  λ s d from. from_section o os n (b ∷ s) ((held n ++ (Char 10 ∷ [])) ++ d) (record {
+    said = bracket_bytes n ++ from.said;
+    text = 13 ∷ from.text;
+    later = from.later;
+    then = from.then;
+    is = behind_brackets n 13 from.said from.text refl (return_ends_not n) from.is;
+    split = ap (λ z. z ∷ s) (eqb-true b 13 u) ∙ ap (λ z. 13 ∷ z) from.split;
+    after = from.after;
+    gives = held_gives n 10 d from.then from.said from.gives;
+  }),
+)
+
 pub section_leads : (o : Open) (os : List Open) (n : Brackets) (b : ℕ) (x y : Bool) → (b == 93) ≡ x → (b == 62) ≡ y → LeadsBy (InSection o os n) b (section_step o os n b x y)
 section_leads o os Zero b true y e f = (
   tt,
@@ -616,40 +678,48 @@ section_leads o os One b true y e f = (
 )
 section_leads o os Two b true y e f = (
   tt,
-  λ s d from. record { said = 93 ∷ from.said; text = 93 ∷ from.text; later = from.later; then = from.then; is = section_byte 93 refl from.is; split = ap (λ z. z ∷ s) (eqb-true b 93 e) ∙ ap (λ z. 93 ∷ z) from.split; after = from.after; gives = ap (λ z. Char 93 ∷ z) from.gives },
+  λ s d from. record { said = 93 ∷ from.said; text = 93 ∷ from.text; later = from.later; then = from.then; is = section_byte 93 refl refl from.is; split = ap (λ z. z ∷ s) (eqb-true b 93 e) ∙ ap (λ z. 93 ∷ z) from.split; after = from.after; gives = ap (λ z. Char 93 ∷ z) from.gives },
 )
 section_leads o os Two b false true e f = (
   tt,
   λ s d from. record { said = []; text = 62 ∷ []; later = s; then = d; is = section_ends; split = ap (λ z. z ∷ s) (eqb-true b 62 f); after = from.0; gives = refl },
 )
-section_leads o os Zero b false y e f = (
-  tt,
-  λ s d from. record { said = b ∷ from.said; text = b ∷ from.text; later = from.later; then = from.then; is = section_byte b (not_end b from.text e) from.is; split = ap (λ z. b ∷ z) from.split; after = from.after; gives = ap (λ z. Char b ∷ z) from.gives },
+section_leads o os Zero b false y e f = section_plain_leads o os Zero b (b == 13) refl e tt
+section_leads o os One b false y e f = section_plain_leads o os One b (b == 13) refl e tt
+section_leads o os Two b false false e f = section_plain_leads o os Two b (b == 13) refl e f
+
+section_after : (o : Open) (os : List Open) (b : ℕ) (m : Move) → (b == 10) ≡ false → LeadsBy (InSection o os Zero) b m → LeadsBy (SectionReturn o os) b m
+section_after o os b Bad e h = tt
+section_after o os b (To new x) e h = (
+  h.0,
+  λ s d from.
+      let i : Sections [] o os (b ∷ s) (x ++ d) = h.1 s d from in
+      record {
+        said = 10 ∷ i.said;
+        text = i.text;
+        later = i.later;
+        then = i.then;
+        is = section_return (feed_front i.text i.later (ap begins_feed (sym i.split) ∙ e)) i.is;
+        split = i.split;
+        after = i.after;
+        gives = ap (λ z. Char 10 ∷ z) i.gives;
+      },
 )
-section_leads o os One b false y e f = (
+
+pub section_return_leads : (o : Open) (os : List Open) (b : ℕ) (x : Bool) → (b == 10) ≡ x
+    → LeadsBy (SectionReturn o os) b (on x (To (InSection o os Zero) []) (section_step o os Zero b (b == 93) (b == 62)))
+section_return_leads o os b false e = section_after o os b (section_step o os Zero b (b == 93) (b == 62)) e (section_leads o os Zero b (b == 93) (b == 62) refl refl)
+section_return_leads o os b true e = (
   tt,
   λ s d from. record {
-    said = 93 ∷ b ∷ from.said;
-    text = b ∷ from.text;
+    said = 10 ∷ from.said;
+    text = 10 ∷ from.text;
     later = from.later;
     then = from.then;
-    is = section_byte 93 (not_bracket b from.text e) (section_byte b (not_end b from.text e) from.is);
-    split = ap (λ z. b ∷ z) from.split;
+    is = section_line from.is;
+    split = ap (λ z. z ∷ s) (eqb-true b 10 e) ∙ ap (λ z. 10 ∷ z) from.split;
     after = from.after;
-    gives = ap (λ z. Char 93 ∷ Char b ∷ z) from.gives;
-  },
-)
-section_leads o os Two b false false e f = (
-  tt,
-  λ s d from. record {
-    said = 93 ∷ 93 ∷ b ∷ from.said;
-    text = b ∷ from.text;
-    later = from.later;
-    then = from.then;
-    is = section_byte 93 f (section_byte 93 (not_bracket b from.text e) (section_byte b (not_end b from.text e) from.is));
-    split = ap (λ z. b ∷ z) from.split;
-    after = from.after;
-    gives = ap (λ z. Char 93 ∷ Char 93 ∷ Char b ∷ z) from.gives;
+    gives = ap (λ z. Char 10 ∷ z) from.gives;
   },
 )
 

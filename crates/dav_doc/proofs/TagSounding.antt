@@ -7,10 +7,10 @@ use Rattle.dav_doc.specs.Names.{Name, written, local_of, is_name, Attribute, Par
 use Rattle.dav_doc.specs.Document.{Forest, Nil, Element, Event, Start, End, events, Tag, attribute_text, attributes_text, tag_text, start_tag, empty_tag, end_tag, nothing, empty, element, ended, alone, full, Spells}
 use Rattle.dav_doc.specs.References.{stands_for, may_stand}
 use Rattle.dav_doc.specs.Words.{want}
-use Rattle.dav_doc.specs.Machine.{Open, Brackets, Zero, One, Two, Place, First, Before, Below, State, Begin, MarkSecond, MarkThird, Return, Opening, DeclareX, DeclareXm, DeclareXml, Declaring, Question, InTarget, TargetEnd, InInstruction, InstructionEnd, SectionWord, InSection, Outside, Text, Markup, Mark, OpenComment, InComment, CommentDash, CommentClose, InReference, InName, InTag, EmptyTag, AtName, BeforeEquals, AfterEquals, InValue, ValueReference, InEnd, EndBlanks, Move, Bad, To, scope_of, end_next, slash_step, letter_step, markup_step, on, name_next, opened, slashed, attribute_begins, tag_step, empty_step, name_step, equals_step, attribute_step, quote_step, with_attribute, with_part, value_step, value_reference_step, end_step, step, Ran, gives, move_on, run}
+use Rattle.dav_doc.specs.Machine.{Open, Brackets, Zero, One, Two, Place, First, Before, Below, State, Begin, MarkSecond, MarkThird, Return, Opening, DeclareX, DeclareXm, DeclareXml, Declaring, Question, InTarget, TargetEnd, InInstruction, InstructionEnd, SectionWord, InSection, SectionReturn, Outside, Text, Markup, Mark, OpenComment, InComment, CommentDash, CommentClose, InReference, InName, InTag, EmptyTag, AtName, BeforeEquals, AfterEquals, InValue, ValueReference, InEnd, EndBlanks, Move, Bad, To, scope_of, end_next, slash_step, letter_step, markup_step, on, name_next, opened, slashed, attribute_begins, tag_step, empty_step, name_step, equals_step, attribute_step, quote_step, with_attribute, with_part, value_step, value_reference_step, end_step, step, Ran, gives, move_on, run}
 use Rattle.dav_doc.proofs.Meaning.{Inside, FromOpen, FromRoot, FromMark, FromPlace, Here, Free, to_name, to_value, FromState, is_front, IsTagFront, IsNameFront, IsEqualsFront, IsValueFront, IsEmptyFront, IsSound}
 use Rattle.dav_doc.proofs.KindFacts.{IsKind, is_kind, ends_by, refers_by, all_more, put}
-use Rattle.dav_doc.proofs.Sounding.{LeadsBy, outside_leads, text_leads, epilog_leads, reference_leads, mark_leads, open_comment_leads, comment_leads, dash_leads, close_leads, undeclared, begin_leads, first_leads, second_leads, third_leads, return_leads, declare_x_leads, declare_xm_leads, declare_xml_leads, declare_leads, question_leads, target_leads, target_end_leads, instruction_leads, instruction_end_leads, section_word_leads, section_leads, plain_one, grows}
+use Rattle.dav_doc.proofs.Sounding.{LeadsBy, outside_leads, text_leads, epilog_leads, reference_leads, mark_leads, open_comment_leads, comment_leads, dash_leads, close_leads, undeclared, begin_leads, first_leads, second_leads, third_leads, return_leads, declare_x_leads, declare_xm_leads, declare_xml_leads, declare_leads, question_leads, target_leads, target_end_leads, instruction_leads, instruction_end_leads, section_word_leads, section_leads, section_return_leads, plain_one, grows}
 
 -- Start tags.
 regroup : (t a e b f c : List ℕ) → t ++ (a ++ (e ++ (b ++ (f ++ c)))) ≡ (t ++ (a ++ (e ++ b))) ++ (f ++ c)
@@ -410,6 +410,7 @@ leads (InInstruction p) b h = instruction_leads p b (b == 63) refl
 leads (InstructionEnd p) b h = instruction_end_leads p b (b == 62) (b == 63) refl refl
 leads (SectionWord o os came c left) b h = section_word_leads o os came c left b (b == c) refl h
 leads (InSection o os n) b h = section_leads o os n b (b == 93) (b == 62) refl refl
+leads (SectionReturn o os) b h = section_return_leads o os b (b == 10) refl
 leads (InReference o os r) b h = reference_leads o os r b (stands_for (r ++ (b ∷ []))) refl
 leads (InName os n) b h = name_leads os n b _ _ (is_kind b) h refl
 leads (InTag os t w) b h = tag_leads os t w b _ (is_kind b) h

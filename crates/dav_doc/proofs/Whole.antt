@@ -8,7 +8,7 @@ use Rattle.dav_doc.specs.Characters.{Owed, Whole, Owes, Special, within, is_asci
 use Rattle.dav_doc.specs.Names.{Name, written, Attribute}
 use Rattle.dav_doc.specs.Document.{Tag}
 use Rattle.dav_doc.specs.Words.{Want, Done, One_of, Space, Spaces, Either}
-use Rattle.dav_doc.specs.Machine.{Open, Place, First, Before, Below, State, Begin, MarkSecond, MarkThird, Return, Opening, DeclareX, DeclareXm, DeclareXml, Declaring, Question, InTarget, TargetEnd, InInstruction, InstructionEnd, SectionWord, InSection, Outside, Text, Markup, Mark, OpenComment, InComment, CommentDash, CommentClose, InReference, InName, InTag, EmptyTag, AtName, BeforeEquals, AfterEquals, InValue, ValueReference, InEnd, EndBlanks}
+use Rattle.dav_doc.specs.Machine.{Open, Place, First, Before, Below, State, Begin, MarkSecond, MarkThird, Return, Opening, DeclareX, DeclareXm, DeclareXml, Declaring, Question, InTarget, TargetEnd, InInstruction, InstructionEnd, SectionWord, InSection, SectionReturn, Outside, Text, Markup, Mark, OpenComment, InComment, CommentDash, CommentClose, InReference, InName, InTag, EmptyTag, AtName, BeforeEquals, AfterEquals, InValue, ValueReference, InEnd, EndBlanks}
 use Rattle.dav_doc.proofs.KindFacts.{and_both}
 use Rattle.dav_doc.proofs.Reading.{owed-append, Fair, fair_run, is_wide}
 
@@ -140,6 +140,7 @@ Kept (InInstruction p) o = PlaceWhole p
 Kept (InstructionEnd p) o = PlaceWhole p × (o ≡ Whole)
 Kept (SectionWord x os came c left) o = AreWhole (x ∷ os) × (o ≡ Whole)
 Kept (InSection x os n) o = AreWhole (x ∷ os)
+Kept (SectionReturn x os) o = AreWhole (x ∷ os)
 Kept (InReference x os r) o = AreWhole (x ∷ os) × (o ≡ Whole)
 Kept (InName os n) o = AreWhole os × (owed_by (written n) Whole ≡ Some o)
 Kept (InTag os t w) o = TagWhole os t × (o ≡ Whole)

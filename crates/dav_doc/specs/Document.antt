@@ -104,18 +104,21 @@ pub data TargetRest : Target → List ℕ → Type 0 where
 pub data Instruction : List ℕ → Type 0 where
   instruction_of : {s : List ℕ} (b : ℕ) → starts_name b ≡ true → TargetRest (target_first b) s → Instruction (b ∷ s)
 
--- what a CDATA section holds, and its text after `<![CDATA[`, up to the first `]]>` (productions 18 to 21)
-pub data SectionRest : List ℕ → List ℕ → Type 0 where
-  section_ends : SectionRest [] (93 ∷ 93 ∷ 62 ∷ [])
-  section_byte : {d s : List ℕ} (b : ℕ) → begins_end (b ∷ s) ≡ false → SectionRest d s → SectionRest (b ∷ d) (b ∷ s)
-
-abbrev pub section_open : List ℕ → List ℕ
-section_open s = 60 ∷ 33 ∷ 91 ∷ (codes "CDATA[" ++ s)
-
 -- the text begins with LF
 abbrev pub begins_feed : List ℕ → Bool
 begins_feed [] = false
 begins_feed (b ∷ s) = b == 10
+
+-- what a CDATA section holds, and its text after `<![CDATA[`, up to the first `]]>` (productions 18 to 21): CR LF is LF there too, and so is
+-- a CR that no LF follows (section 2.11)
+pub data SectionRest : List ℕ → List ℕ → Type 0 where
+  section_ends : SectionRest [] (93 ∷ 93 ∷ 62 ∷ [])
+  section_byte : {d s : List ℕ} (b : ℕ) → (b == 13) ≡ false → begins_end (b ∷ s) ≡ false → SectionRest d s → SectionRest (b ∷ d) (b ∷ s)
+  section_line : {d s : List ℕ} → SectionRest d s → SectionRest (10 ∷ d) (13 ∷ 10 ∷ s)
+  section_return : {d s : List ℕ} → begins_feed s ≡ false → SectionRest d s → SectionRest (10 ∷ d) (13 ∷ s)
+
+abbrev pub section_open : List ℕ → List ℕ
+section_open s = 60 ∷ 33 ∷ 91 ∷ (codes "CDATA[" ++ s)
 
 -- the text of trees below these declarations (production 43); in text CR LF is LF, and so is a CR that no LF follows (section 2.11)
 pub data Content : List Binding → Forest → List ℕ → Type 0 where

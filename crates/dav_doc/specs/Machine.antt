@@ -52,6 +52,8 @@ pub data State : Type 0 where
   -- the word CDATA: what has come, the next byte and what is left
   SectionWord : Open → List Open → List ℕ → ℕ → List ℕ → State
   InSection : Open → List Open → Brackets → State
+  -- after CR in a section
+  SectionReturn : Open → List Open → State
   InReference : Open → List Open → List ℕ → State
   -- a start tag below these elements
   InName : List Open → Name → State
@@ -168,13 +170,18 @@ held Zero = []
 held One = Char 93 ∷ []
 held Two = Char 93 ∷ Char 93 ∷ []
 
+-- in a section, a byte that ends nothing, by whether it is CR
+abbrev pub section_plain : Open → List Open → Brackets → ℕ → Bool → Move
+section_plain o os n b true = To (SectionReturn o os) (held n ++ (Char 10 ∷ []))
+section_plain o os n b false = To (InSection o os Zero) (held n ++ (Char b ∷ []))
+
 -- in a section, by whether the byte is `]`, and whether it is `>`
 abbrev pub section_step : Open → List Open → Brackets → ℕ → Bool → Bool → Move
 section_step o os Zero b true x = To (InSection o os One) []
 section_step o os One b true x = To (InSection o os Two) []
 section_step o os Two b true x = To (InSection o os Two) (Char 93 ∷ [])
 section_step o os Two b false true = To (Text (o ∷ os) Zero) []
-section_step o os n b false x = To (InSection o os Zero) (held n ++ (Char b ∷ []))
+section_step o os n b false x = section_plain o os n b (b == 13)
 
 abbrev pub question_first : Place → ℕ → Bool → Move
 question_first First b true = To DeclareX []
@@ -313,6 +320,7 @@ step (InInstruction p) b = on (b == 63) (To (InstructionEnd p) []) (To (InInstru
 step (InstructionEnd p) b = on (b == 62) (To (at p) []) (on (b == 63) (To (InstructionEnd p) []) (To (InInstruction p) []))
 step (SectionWord o os came c left) b = on (b == c) (To (section_next o os (came ++ (c ∷ [])) left) []) Bad
 step (InSection o os n) b = section_step o os n b (b == 93) (b == 62)
+step (SectionReturn o os) b = on (b == 10) (To (InSection o os Zero) []) (section_step o os Zero b (b == 93) (b == 62))
 step (InReference o os r) b = reference_step o os (r ++ (b ∷ [])) (stands_for (r ++ (b ∷ [])))
 step (InName os n) b = name_step os n b (kind b) (name_next n b (kind b))
 step (InTag os t w) b = tag_step os t w b (kind b)

@@ -77,6 +77,12 @@ pub fn examples()
         ≡ Some (record { state = Text [] Zero; events = Start 1 [] (codes "a") ∷ Char 65 ∷ Char 195 ∷ Char 169 ∷ End 1 ∷ [] }) }
     ensures lines { run (60 ∷ 97 ∷ 62 ∷ 13 ∷ 10 ∷ 13 ∷ codes "</a>") Begin
         ≡ Some (record { state = Text [] Zero; events = Start 1 [] (codes "a") ∷ Char 10 ∷ Char 10 ∷ End 1 ∷ [] }) }
+    ensures section_lines { run (codes "<a><![CDATA[" ++ (13 ∷ 10 ∷ 13 ∷ 93 ∷ 13 ∷ codes "]]></a>")) Begin
+        ≡ Some (record {
+          state = Text [] Zero;
+          events =
+              Start 1 [] (codes "a") ∷ Char 10 ∷ Char 10 ∷ Char 93 ∷ Char 10 ∷ End 1 ∷ [];
+        }) }
     ensures inner { run (codes "<p:a xmlns:p='A'><p:b xmlns:p='B'/></p:a>") Begin
         ≡ Some (record {
           state = Text [] Zero;

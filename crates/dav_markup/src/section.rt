@@ -22,6 +22,8 @@ pub enum Section {
     WantsSecondA,
     WantsBracket,
     Inside(Brackets),
+    /// Behind a carriage return.
+    Return,
 }
 
 /// What a byte does there.
@@ -34,6 +36,8 @@ pub enum Ran {
     Held,
     /// So many `]` that came before end nothing, nor does this byte.
     Text { held: Brackets, byte: u8 },
+    /// So many `]` that came before end nothing, and it is a carriage return, which stands for a line feed: XML 1.0 section 2.11.
+    Return { held: Brackets },
     /// It ends the section.
     Ended,
 }
@@ -62,10 +66,23 @@ fn inside(brackets: Brackets, byte: u8) -> Ran
     if byte == b'>' && brackets == Brackets::Two {
         return Ran::Ended;
     }
+    if byte == b'\r' {
+        return Ran::Return { held: brackets };
+    }
     Ran::Text {
         held: brackets,
         byte,
     }
+}
+
+/// A byte in a section, behind a carriage return.
+fn behind_return(byte: u8) -> Ran
+    ensures { (o : machine.Open) (os : List machine.Open) → machine.step (section_in Section.Return o os) byte ≡ ran_in result o os }
+{
+    if byte == b'\n' {
+        return Ran::Further(Section::Inside(Brackets::Zero));
+    }
+    inside(Brackets::Zero, byte)
 }
 
 impl Section {
@@ -81,6 +98,7 @@ impl Section {
             Section::WantsSecondA => only(b'A', Section::WantsBracket, byte),
             Section::WantsBracket => only(b'[', Section::Inside(Brackets::Zero), byte),
             Section::Inside(brackets) => inside(brackets, byte),
+            Section::Return => behind_return(byte),
         }
     }
 }

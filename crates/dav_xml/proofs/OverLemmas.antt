@@ -83,6 +83,7 @@ section_text sections.WantsT o os = refl
 section_text sections.WantsSecondA o os = refl
 section_text sections.WantsBracket o os = refl
 section_text (sections.Inside n) o os = refl
+section_text sections.Return o os = refl
 
 end_text : (o : machine.Open) (os : List machine.Open) (came left : List ℕ) → is_text (end_next o os came left) ≡ false
 end_text o os came [] = refl

@@ -80,6 +80,10 @@ pub(crate) fn in_section(section: Section, byte: u8) -> Option<Step>
             next: Position::Section(Section::Inside(Brackets::Zero)),
             bytes: behind_brackets(held, byte),
         }),
+        Ran::Return { held } => Some(Step::Text {
+            next: Position::Section(Section::Return),
+            bytes: behind_brackets(held, b'\n'),
+        }),
         Ran::Ended => Some(Step::Further(Position::Text(Brackets::Zero))),
     }
 }
