@@ -37,22 +37,7 @@ Fits Went IsGone q (Some b) Queued = q ≡ Some b
 Fits Went IsGone q (Some b) (Sent k) = (q ≡ None) × Went k b
 Fits Went IsGone q (Some b) (Lost n) = (q ≡ None) × IsGone n b
 
--- what a deed comes to that isn't refused, by the job in flight
-abbrev effect_by_job : DeskTable → Option Flight → ℕ → Deed → Effect
-effect_by_job t job now (Store p len body) = store_effect t p now body
-effect_by_job t job now (Forget p locks below) = forget_effect t p locks below
-effect_by_job t job now Take = take_effect t (taken t now)
-effect_by_job t job now (Settle number done) = settle_effect t job now done
-effect_by_job t job now Stop = stop_effect t
-
-by_job : (t : DeskTable) (now : ℕ) (deed : Deed) → effect_by_job t t.job now deed ≡ effect_done t now deed
-by_job t now (Store p len body) = refl
-by_job t now (Forget p locks below) = refl
-by_job t now Take = refl
-by_job t now (Settle number done) = refl
-by_job t now Stop = refl
-
-no_fault : (found : Option Item) → queued_fault found ≡ None → found ≡ None
+pub no_fault : (found : Option Item) → queued_fault found ≡ None → found ≡ None
 no_fault None is = refl
 no_fault (Some item) is = cc
 
@@ -96,18 +81,22 @@ module _ (Went : ℕ → BodyId → Type 0) where
       let h : nat_eq b.file file ≡ true = subst (λ (q : Option BodyId). has_file file q ≡ true) fit holds in
       subst (λ (t : Bool). Fits Went M None (Some b) (if t then Lost n else Queued)) (sym h) (refl, new b fit)
 
+  -- a story that goes with a table, one step later
+  pub record StoryFits (path : PathParts) (before : ℕ) (st : Story) (t : DeskTable) : Type 0 where
+    pub job : st.job ≡ t.job
+    pub count : st.count ≡ before + 1
+    pub fits : Fits Went (IsLostAs t.index path) (queued_at path t.index.entries) st.last st.fate
+
   -- a step from a story to a table
-  pub record StepFits (path : PathParts) (st : Story) (deed : Deed) (mark : Mark) (told : Option Told) (t : DeskTable) : Type 0 where
-    pub job : (tell path st deed mark told).job ≡ t.job
-    pub count : (tell path st deed mark told).count ≡ st.count + 1
-    pub fits : Fits Went (IsLostAs t.index path) (queued_at path t.index.entries) (tell path st deed mark told).last (tell path st deed mark told).fate
+  abbrev pub StepFits : PathParts → Story → Deed → Mark → Option Told → DeskTable → Type 0
+  StepFits path st deed mark told t = StoryFits path st.count (tell path st deed mark told) t
 
   module _ (path : PathParts) (t : DeskTable) (last : Option BodyId) (fate : Fate) (count : ℕ) (fit : Fits Went (IsLostAs t.index path) (queued_at path t.index.entries) last fate) where
     abbrev at : Option Flight → Story
     at job = record { last = last; fate = fate; job = job; count = count }
 
     -- the deed, with this effect, fits
-    abbrev EffectFits : Option Flight → Deed → Effect → Type 0
+    abbrev pub EffectFits : Option Flight → Deed → Effect → Type 0
     EffectFits job deed e = StepFits path (at job) deed e.mark e.told (changed t e)
 
     -- another table with the same queued body and no less lost
@@ -122,20 +111,13 @@ module _ (Went : ℕ → BodyId → Type 0) where
     fits_waited : (w : Option Wait) → FitsOn (waited t.index w)
     fits_waited w = fits_on (waited t.index w) (waited_queued path t.index w) (λ x there. subst (λ (ls : List LostItem). Contains ls x) (sym (waited_lost t.index w)) there)
 
-    refused_fits : (job : Option Flight) (deed : Deed) (fault : DeskFault) → job ≡ t.job → EffectFits job deed (quiet t (marks.Refused fault) None)
-    refused_fits job (Store p len body) fault same = record { job = same; count = refl; fits = fit }
-    refused_fits job (Forget p locks below) fault same = record { job = same; count = refl; fits = fit }
-    refused_fits job Take fault same = record { job = same; count = refl; fits = fit }
-    refused_fits job (Settle n done) fault same = record { job = same; count = refl; fits = fit }
-    refused_fits job Stop fault same = record { job = same; count = refl; fits = fit }
-
     abbrev closed_table : PathParts → ℕ → BodyId → Table
     closed_table p now b = (changed t (store_effect t p now (Some b))).index
 
     abbrev ClosedFits : PathParts → ℕ → BodyId → Bool → Type 0
     ClosedFits p now b c = Fits Went (IsLostAs (closed_table p now b) path) (queued_at path (closed_table p now b).entries) (if c then Some b else last) (if c then Queued else fate)
 
-    store_fits : (job : Option Flight) (p : PathParts) (len now : ℕ) (body : Option BodyId) → job ≡ t.job → EffectFits job (Store p len body) (store_effect t p now body)
+    pub store_fits : (job : Option Flight) (p : PathParts) (len now : ℕ) (body : Option BodyId) → job ≡ t.job → EffectFits job (Store p len body) (store_effect t p now body)
     store_fits job p len now None same = record { job = same; count = refl; fits = fit }
     store_fits job p len now (Some b) same = record { job = same; count = refl; fits = by_test (same_path path p) here other }
       where
@@ -145,14 +127,14 @@ module _ (Went : ℕ → BodyId → Type 0) where
         other : same_path path p ≡ false → ClosedFits p now b (same_path path p)
         other is = subst (ClosedFits p now b) (sym is) (fits_on (closed_table p now b) (waited_queued path (replay t.index (records.Closed (bare p) b)) (store_effect t p now (Some b)).waits ∙ closed_other path p b t.index is) (λ x there. there))
 
-    forget_fits : (job : Option Flight) (p : PathParts) (locks below : Bool) → job ≡ t.job → queued_with p below t.index.entries ≡ None → EffectFits job (Forget p locks below) (forget_effect t p locks below)
+    pub forget_fits : (job : Option Flight) (p : PathParts) (locks below : Bool) → job ≡ t.job → queued_with p below t.index.entries ≡ None → EffectFits job (Forget p locks below) (forget_effect t p locks below)
     forget_fits job p locks below same none = record { job = same; count = refl; fits = by (going p below t.index.entries) }
       where
         by : (items : List Item) → FitsOn (recorded t.index (forgot_record p locks below items))
         by [] = fit
         by (x ∷ xs) = fits_on (replay t.index (records.Forgot p locks below)) (forgot_queued path p locks below t.index none) (λ x there. there)
 
-    take_fits : (job flight : Option Flight) → job ≡ t.job → EffectFits job Take (take_effect t flight)
+    pub take_fits : (job flight : Option Flight) → job ≡ t.job → EffectFits job Take (take_effect t flight)
     take_fits job None same = record { job = same; count = refl; fits = fit }
     take_fits job (Some flight) same = record { job = refl; count = refl; fits = fits_waited (tried t flight) }
 
@@ -243,38 +225,10 @@ module _ (Went : ℕ → BodyId → Type 0) where
       job_fits now (ends.Again after) good = again_fits after (fated_of t.index flight now (ends.Again after)) (λ n is. loss_is_current now (ends.Again after) n is)
       job_fits now ends.Refused good = refused_job_fits (fated_of t.index flight now ends.Refused) (λ n is. loss_is_current now ends.Refused n is)
 
-    settle_fits : (job : Option Flight) (number now : ℕ) (done : Done) → job ≡ t.job
+    pub settle_fits : (job : Option Flight) (number now : ℕ) (done : Done) → job ≡ t.job
         → ((flight : Flight) (b : BodyId) (seen : Seen) → done ≡ ends.Sent seen → job ≡ Some flight → same_path path flight.path ≡ true → nat_eq b.file flight.body.file ≡ true → Went count b)
         → EffectFits job (Settle number done) (settle_effect t job now done)
     settle_fits None number now (ends.Sent seen) same good = record { job = same; count = refl; fits = fit }
     settle_fits None number now (ends.Again after) same good = record { job = same; count = refl; fits = fit }
     settle_fits None number now ends.Refused same good = record { job = same; count = refl; fits = fit }
     settle_fits (Some flight) number now done same good = job_fits flight number now done (λ b seen is path file. good flight b seen is refl path file)
-
-  done_fits : (path : PathParts) (t : DeskTable) (last : Option BodyId) (fate : Fate) (count : ℕ) (fit : Fits Went (IsLostAs t.index path) (queued_at path t.index.entries) last fate)
-      → (job : Option Flight) (now : ℕ) (deed : Deed) → job ≡ t.job → refusal_of t deed ≡ None
-      → ((flight : Flight) (b : BodyId) (number : ℕ) (seen : Seen) → deed ≡ Settle number (ends.Sent seen) → job ≡ Some flight → same_path path flight.path ≡ true → nat_eq b.file flight.body.file ≡ true → Went count b)
-      → EffectFits path t last fate count fit job deed (effect_by_job t job now deed)
-  done_fits path t last fate count fit job now (Store p len body) same free good = store_fits path t last fate count fit job p len now body same
-  done_fits path t last fate count fit job now (Forget p locks below) same free good = forget_fits path t last fate count fit job p locks below same (no_fault (queued_with p below t.index.entries) free)
-  done_fits path t last fate count fit job now Take same free good = take_fits path t last fate count fit job (taken t now) same
-  done_fits path t last fate count fit job now (Settle number done) same free good =
-      settle_fits path t last fate count fit job number now done same (λ flight b seen is flies on file. good flight b number seen (ap (Settle number) is) flies on file)
-  done_fits path t last fate count fit job now Stop same free good = stop_fits path t last fate count fit job same
-
-  step_by : (path : PathParts) (t : DeskTable) (last : Option BodyId) (fate : Fate) (count : ℕ) (fit : Fits Went (IsLostAs t.index path) (queued_at path t.index.entries) last fate)
-      → (now : ℕ) (deed : Deed) (r : Option DeskFault) → refusal_of t deed ≡ r
-      → ((flight : Flight) (b : BodyId) (number : ℕ) (seen : Seen) → deed ≡ Settle number (ends.Sent seen) → r ≡ None → t.job ≡ Some flight → same_path path flight.path ≡ true → nat_eq b.file flight.body.file ≡ true → Went count b)
-      → EffectFits path t last fate count fit t.job deed (effect_unless r t now deed)
-  step_by path t last fate count fit now deed (Some fault) is good = refused_fits path t last fate count fit t.job deed fault refl
-  step_by path t last fate count fit now deed None is good =
-      subst (λ (e : Effect). EffectFits path t last fate count fit t.job deed e) (by_job t now deed)
-      (done_fits path t last fate count fit t.job now deed refl is (λ flight b number seen deed_is flies on file. good flight b number seen deed_is refl flies on file))
-
-  pub step_fits : (path : PathParts) (t : DeskTable) (st : Story) (now : ℕ) (deed : Deed) → st.job ≡ t.job
-      → ((flight : Flight) (b : BodyId) (number : ℕ) (seen : Seen) → deed ≡ Settle number (ends.Sent seen) → refusal_of t deed ≡ None → t.job ≡ Some flight → same_path path flight.path ≡ true → nat_eq b.file flight.body.file ≡ true → Went st.count b)
-      → Fits Went (IsLostAs t.index path) (queued_at path t.index.entries) st.last st.fate
-      → StepFits path st deed (mark_of t now deed) (told_of t now deed) (after t now deed)
-  step_fits path t st now deed same good fit =
-      subst (λ (job : Option Flight). StepFits path (record { last = st.last; fate = st.fate; job = job; count = st.count }) deed (mark_of t now deed) (told_of t now deed) (after t now deed)) (sym same)
-      (step_by path t st.last st.fate st.count fit now deed (refusal_of t deed) refl good)

@@ -18,3 +18,11 @@ pub mod Slashes
 pub mod Loops
 pub mod Making
 pub mod Sparing
+pub mod Losing
+pub mod Rows
+pub mod StoreRow
+pub mod ForgetRow
+pub mod TakeRow
+pub mod SettleRow
+pub mod StopRow
+pub mod AllRows

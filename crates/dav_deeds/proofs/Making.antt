@@ -18,7 +18,8 @@ use Rattle.dav_deeds.specs.declared.desk_table.DeskTable.TheInside.{Inside}
 use Rattle.dav_deeds.specs.DeskTable.{DeskTable}
 use Rattle.dav_deeds.specs.DeskView.{table_of}
 use Rattle.dav_deeds.specs.Sound.{IsSound}
-use Rattle.dav_deeds.proofs.Sounds.{after_sound}
+use Rattle.dav_deeds.proofs.AllRows.{after_sound}
+use Rattle.dav_deeds.proofs.Sparing.{settled_effect}
 use Rattle.dav_deeds.specs.Effects.{Effect, Wait, quiet, file_of, files_of, is_flying, grounded, going, forgot_record, waiting_at, taken, take_effect, fated_of, wait_of_fate, settle_by_fate, settle_effect, effect_unless, effect_of, waited, recorded, changed, after}
 use Rattle.dav_deeds.specs.Change.{CanNote, Notes, IsWaiting, job_with, jobs_with, IsChange, CanChange, IsPlannedBy, IsPlan}
 use Rattle.dav_deeds.specs.declared.answer.Told.TheVariants.{Idle}
@@ -63,15 +64,6 @@ store_is t who now q p len bytes fault planned row same length_is refused blank 
     refused_is t who now (asks.Store q bytes) (deeds.Store p (length bytes) None) fault planned row (store_refused t q p bytes fault same refused')
     (ap (λ (p : PathParts). store_refusal t.index p (length bytes)) same ∙ refused') blank
     (subst (λ (n : ℕ). IsPlannedBy t who now (deeds.Store p n None) (quiet t (marks.Refused fault) None) planned []) length_is h)
-
--- a settling of the job in flight
-pub settled_effect : (t : DeskTable) (now job : ℕ) (done : Done) (flight : Flight) → t.job ≡ Some flight → flight.number ≡ job → effect_of t now (deeds.Settle job done) ≡ settle_by_fate t flight done (fated_of t.index flight now done)
-settled_effect t now job done flight flies same =
-    ap (λ (r : Option DeskFault). effect_unless r t now (deeds.Settle job done)) free
-    ∙ ap (λ (o : Option Flight). settle_effect t o now done) flies
-  where
-    free : job_fault job t.job ≡ None
-    free = ap (job_fault job) flies ∙ ap (λ (b : Bool). if b then None else Some (NoSuchJob job)) (eq-eqb flight.number job same)
 
 pub settle_is : (t : DeskTable) (who : Who) (now job : ℕ) (done : Done) (flight : Flight) (planned : Planned) (row : List ℕ) → t.job ≡ Some flight → flight.number ≡ job
     → IsPlannedBy t who now (deeds.Settle job done) (settle_by_fate t flight done (fated_of t.index flight now done)) planned row → IsPlan t who now (asks.Settle job done) (Some planned) row

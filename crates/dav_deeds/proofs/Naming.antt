@@ -37,11 +37,11 @@ waited_bodies t None Q h = h
 waited_bodies t (Some w) Q h = less_bodies t (with_changed w.path (waiting_so w.waiting) t.entries) t.records t.next_file t.next_lost (mild_less w.path (waiting_so w.waiting) t.entries (so_mild w.waiting)) Q h
 
 -- a fact of each body of the table, and of a new one, is one of each body afterwards
-abbrev Stays : DeskTable → Deed → Effect → (BodyId → Type 0) → Type 0
+abbrev pub Stays : DeskTable → Deed → Effect → (BodyId → Type 0) → Type 0
 Stays t deed e Q = Every Q (bodies_of t.index) → ((b : BodyId) → new_body deed ≡ Some b → Q b) → Every Q (bodies_of (changed t e).index)
 
 module _ (t : DeskTable) (s : IsSound t) (Q : BodyId → Type 0) where
-  store_stays : (now : ℕ) (path : PathParts) (len : ℕ) (body : Option BodyId) → IsPath path → Stays t (Store path len body) (store_effect t path now body) Q
+  pub store_stays : (now : ℕ) (path : PathParts) (len : ℕ) (body : Option BodyId) → IsPath path → Stays t (Store path len body) (store_effect t path now body) Q
   store_stays now path len None is h new = h
   store_stays now path len (Some b) is h new =
       let e : EachBody Q t.index.entries t.index.lost = each_body Q t.index h in
@@ -53,14 +53,14 @@ module _ (t : DeskTable) (s : IsSound t) (Q : BodyId → Type 0) where
       same_some : (a b : BodyId) → Some a ≡ Some b → a ≡ b
       same_some a b is = cc
 
-  forget_stays : (path : PathParts) (locks below : Bool) → Stays t (Forget path locks below) (forget_effect t path locks below) Q
+  pub forget_stays : (path : PathParts) (locks below : Bool) → Stays t (Forget path locks below) (forget_effect t path locks below) Q
   forget_stays path locks below h new = by (going path below t.index.entries)
     where
       by : (items : List Item) → Every Q (bodies_of (recorded t.index (forgot_record path locks below items)))
       by [] = h
       by (x ∷ xs) = less_bodies t.index (without_entry path below t.index.entries) (t.index.records + 1) (max t.index.next_file 0) (max t.index.next_lost 0) (gone_less path below t.index.entries) Q h
 
-  take_stays : (o : Option Flight) → Stays t Take (take_effect t o) Q
+  pub take_stays : (o : Option Flight) → Stays t Take (take_effect t o) Q
   take_stays None h new = h
   take_stays (Some flight) h new = waited_bodies t.index (tried t flight) Q h
 
@@ -87,36 +87,7 @@ module _ (t : DeskTable) (s : IsSound t) (Q : BodyId → Type 0) where
   fate_stays flight number ends.Refused (fates.Waits n due) noted within lost h new = waited_bodies t.index (settle_by_fate t flight ends.Refused (fates.Waits n due)).waits Q h
   fate_stays flight number ends.Refused (fates.Lost n) noted within lost h new = loss_stays flight n (lost n refl) within h
 
-  settle_stays : (job : Option Flight) (number now : ℕ) (done : Done) → t.job ≡ job → IsDone done → Stays t (Settle number done) (settle_effect t job now done) Q
+  pub settle_stays : (job : Option Flight) (number now : ℕ) (done : Done) → t.job ≡ job → IsDone done → Stays t (Settle number done) (settle_effect t job now done) Q
   settle_stays None number now done same noted h new = h
   settle_stays (Some flight) number now done same noted h new =
       fate_stays flight number done (fated_of t.index flight now done) noted (subst (λ (job : Option Flight). IsJobWithin job t.index) same s.job) (λ n is. loss_is t.index flight now done n is) h new
-
-  done_stays : (now : ℕ) (deed : Deed) → IsDeed t deed → Stays t deed (effect_done t now deed) Q
-  done_stays now (Store path len body) is h new = store_stays now path len body is.0 h new
-  done_stays now (Forget path locks below) is h new = forget_stays path locks below h new
-  done_stays now Take is h new = take_stays (taken t now) h new
-  done_stays now (Settle number done) is h new = settle_stays t.job number now done refl is h new
-  done_stays now Stop is h new = h
-
-  pub bodies_stay : (now : ℕ) (deed : Deed) → IsDeed t deed → Stays t deed (effect_of t now deed) Q
-  bodies_stay now deed is h new = by (refusal_of t deed)
-    where
-      by : (r : Option DeskFault) → Every Q (bodies_of (changed t (effect_unless r t now deed)).index)
-      by (Some fault) = h
-      by None = done_stays now deed is h new
-
-every_itself : {X : Type 0} (xs ys : List X) → ((x : X) → Contains ys x → Contains xs x) → Every (Contains xs) ys
-every_itself xs [] h = tt
-every_itself xs (y ∷ ys) h = (h y (0, omega arith, refl), every_itself xs ys (λ x c. h x (suc c.0, omega (arith, c.1), c.2)))
-
-every_weakly : {X : Type 0} (P Q : X → Type 0) (xs : List X) → ((x : X) → P x → Q x) → Every P xs → Every Q xs
-every_weakly P Q [] f h = h
-every_weakly P Q (x ∷ xs) f h = (f x h.0, every_weakly P Q xs f h.1)
-
--- no body but those before and the new one
-pub named : (t : DeskTable) → IsSound t → (now : ℕ) (deed : Deed) → IsDeed t deed → (id : BodyId) → Contains (bodies_of (after t now deed).index) id → Contains (bodies_of t.index) id ⊎ (new_body deed ≡ Some id)
-named t s now deed is id there =
-    let Q : BodyId → Type 0 = λ (b : BodyId). Contains (bodies_of t.index) b ⊎ (new_body deed ≡ Some b) in
-    every_at Q (bodies_of (after t now deed).index) id
-    (bodies_stay t s Q now deed is (every_weakly (Contains (bodies_of t.index)) Q (bodies_of t.index) (λ b c. inl c) (every_itself (bodies_of t.index) (bodies_of t.index) (λ x c. c))) (λ b new. inr new)) there

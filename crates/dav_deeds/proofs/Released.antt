@@ -38,7 +38,7 @@ use Rattle.dav_deeds.proofs.Flying.{every_at, at_found}
 use Rattle.dav_deeds.proofs.Sounds.{bare_is}
 
 -- how many bodies are in the file
-abbrev total : ℕ → Table → ℕ
+abbrev pub total : ℕ → Table → ℕ
 total file t = sum_by (in_file file) (bodies_of t)
 
 one_in : (file : ℕ) (b : BodyId) → b.file ≡ file → in_file file b ≡ 1
@@ -48,7 +48,7 @@ none_in : (file : ℕ) (b : BodyId) → b.file ≢ file → in_file file b ≡ 0
 none_in file b off = ap one_if (by_test (nat_eq b.file file) (λ h. absurd (off (eqb-true b.file file h))) (λ h. h))
 
 -- where no body is in a file, each is in another
-apart : (file : ℕ) (bs : List BodyId) → sum_by (in_file file) bs ≡ 0 → Every (λ (b : BodyId). b.file ≢ file) bs
+pub apart : (file : ℕ) (bs : List BodyId) → sum_by (in_file file) bs ≡ 0 → Every (λ (b : BodyId). b.file ≢ file) bs
 apart file [] nil = tt
 apart file (b ∷ bs) nil =
     let head : sum_by (in_file file) (b ∷ bs) ≡ in_file file b + sum_by (in_file file) bs = sum_by-cons (in_file file) b bs in
@@ -103,13 +103,13 @@ body_entry path items c is = by (entry_at path items) refl is
 
 module _ (t : DeskTable) (s : IsSound t) where
   -- nothing is in a file that is released
-  abbrev Spares : Effect → Type 0
+  abbrev pub Spares : Effect → Type 0
   Spares e = (file : ℕ) → Contains e.released file → (total file (changed t e).index ≡ 0) × (is_flying e.job file ≡ false)
 
-  nothing : (e : Effect) → e.released ≡ [] → Spares e
+  pub nothing : (e : Effect) → e.released ≡ [] → Spares e
   nothing e none file there = let c : Contains [] file = subst (λ (l : List ℕ). Contains l file) none there in absurd (omega (arith, c.1))
 
-  store_spares : (now : ℕ) (path : PathParts) (len : ℕ) (body : Option BodyId) → IsPath path → store_refusal t.index path len ≡ None → IsBodyUnless None t.index.next_file len body → Spares (store_effect t path now body)
+  pub store_spares : (now : ℕ) (path : PathParts) (len : ℕ) (body : Option BodyId) → IsPath path → store_refusal t.index path len ≡ None → IsBodyUnless None t.index.next_file len body → Spares (store_effect t path now body)
   store_spares now path len None is free h file there = absurd h
   store_spares now path len (Some b) is free h file there =
       let g : Contains (file_of (body_at path t.index.entries)) file × (is_flying t.job file ≡ false) = grounded_of t.job (file_of (body_at path t.index.entries)) file there in
@@ -131,7 +131,7 @@ module _ (t : DeskTable) (s : IsSound t) where
       let none : total file (waited closed (store_effect t path now (Some b)).waits) ≡ 0 = omega arith in
       (none, g.1)
 
-  forget_spares : (path : PathParts) (locks below : Bool) → Spares (forget_effect t path locks below)
+  pub forget_spares : (path : PathParts) (locks below : Bool) → Spares (forget_effect t path locks below)
   forget_spares path locks below file there =
       let g : Contains (files_of (going path below t.index.entries)) file × (is_flying t.job file ≡ false) = grounded_of t.job (files_of (going path below t.index.entries)) file there in
       (by (going path below t.index.entries) refl g.0, g.1)
@@ -213,7 +213,7 @@ module _ (t : DeskTable) (s : IsSound t) where
   fate_spares flight (ends.Again after) fates.Superseded none file (suc k, lt, at) = absurd (omega arith)
   fate_spares flight ends.Refused fates.Superseded none file (suc k, lt, at) = absurd (omega arith)
 
-  settle_spares : (job : Option Flight) (now : ℕ) (done : Done) → t.job ≡ job → Spares (settle_effect t job now done)
+  pub settle_spares : (job : Option Flight) (now : ℕ) (done : Done) → t.job ≡ job → Spares (settle_effect t job now done)
   settle_spares None now done same = nothing (settle_effect t None now done) refl
   settle_spares (Some flight) now done same =
       fate_spares flight done (fated_of t.index flight now done)
@@ -235,38 +235,21 @@ module _ (t : DeskTable) (s : IsSound t) where
           by true h = absurd (not_superseded done h)
           by false h = refl
 
-  take_spares : (o : Option Flight) → Spares (take_effect t o)
+  pub take_spares : (o : Option Flight) → Spares (take_effect t o)
   take_spares None = nothing (take_effect t None) refl
   take_spares (Some flight) = nothing (take_effect t (Some flight)) refl
 
-  done_spares : (now : ℕ) (deed : Deed) → IsDeed t deed → refusal_of t deed ≡ None → Spares (effect_done t now deed)
-  done_spares now (Store path len body) is free = store_spares now path len body is.0 free (subst (λ (r : Option DeskFault). IsBodyUnless r t.index.next_file len body) free is.1)
-  done_spares now (Forget path locks below) is free = forget_spares path locks below
-  done_spares now Take is free = take_spares (taken t now)
-  done_spares now (Settle number done) is free = settle_spares t.job now done refl
-  done_spares now Stop is free = nothing (effect_done t now Stop) refl
-
-  unless_spares : (now : ℕ) (deed : Deed) (r : Option DeskFault) → refusal_of t deed ≡ r → IsDeed t deed → Spares (effect_unless r t now deed)
-  unless_spares now deed (Some fault) at is = nothing (effect_unless (Some fault) t now deed) refl
-  unless_spares now deed None at is = done_spares now deed is at
-
-  pub spared : (now : ℕ) (deed : Deed) → IsDeed t deed → (file : ℕ) → Contains (released_of t now deed) file
-      → ((id : BodyId) → Contains (bodies_of (after t now deed).index) id → id.file ≢ file) × (is_flying (after t now deed).job file ≡ false)
-  spared now deed is file there =
-      let none : (total file (after t now deed).index ≡ 0) × (is_flying (after t now deed).job file ≡ false) = unless_spares now deed (refusal_of t deed) refl is file there in
-      ((λ id c. every_at (λ (b : BodyId). b.file ≢ file) (bodies_of (after t now deed).index) id (apart file (bodies_of (after t now deed).index) none.0) c), none.1)
-
   -- and each is a file of bodies
-  abbrev Begins : Effect → Type 0
+  abbrev pub Begins : Effect → Type 0
   Begins e = (file : ℕ) → Contains e.released file → 2 ≤ file
 
-  none_begins : (e : Effect) → e.released ≡ [] → Begins e
+  pub none_begins : (e : Effect) → e.released ≡ [] → Begins e
   none_begins e none file there = let c : Contains [] file = subst (λ (l : List ℕ). Contains l file) none there in absurd (omega (arith, c.1))
 
   begun : EachBody (λ (b : BodyId). 2 ≤ b.file) t.index.entries t.index.lost
   begun = each_body (λ (b : BodyId). 2 ≤ b.file) t.index s.index.files_begin
 
-  store_begins : (now : ℕ) (path : PathParts) (body : Option BodyId) → Begins (store_effect t path now body)
+  pub store_begins : (now : ℕ) (path : PathParts) (body : Option BodyId) → Begins (store_effect t path now body)
   store_begins now path None file there = absurd (omega (arith, there.1))
   store_begins now path (Some b) file there =
       let g : Contains (file_of (body_at path t.index.entries)) file × (is_flying t.job file ≡ false) = grounded_of t.job (file_of (body_at path t.index.entries)) file there in
@@ -293,7 +276,7 @@ module _ (t : DeskTable) (s : IsSound t) where
       by true ih = (h.0, ih)
       by false ih = ih
 
-  forget_begins : (path : PathParts) (locks below : Bool) → Begins (forget_effect t path locks below)
+  pub forget_begins : (path : PathParts) (locks below : Bool) → Begins (forget_effect t path locks below)
   forget_begins path locks below file there =
       files_begin (going path below t.index.entries) file (going_each path below (λ (x : Item). OfBody (λ (c : BodyId). 2 ≤ c.file) x.entry) t.index.entries begun.kept)
       (grounded_of t.job (files_of (going path below t.index.entries)) file there).0
@@ -305,26 +288,12 @@ module _ (t : DeskTable) (s : IsSound t) where
   fate_begins flight done fates.Superseded is file (zero, lt, at) = subst (λ n. 2 ≤ n) at is
   fate_begins flight done fates.Superseded is file (suc k, lt, at) = absurd (omega arith)
 
-  settle_begins : (job : Option Flight) (now : ℕ) (done : Done) → t.job ≡ job → Begins (settle_effect t job now done)
+  pub settle_begins : (job : Option Flight) (now : ℕ) (done : Done) → t.job ≡ job → Begins (settle_effect t job now done)
   settle_begins None now done same = none_begins (settle_effect t None now done) refl
   settle_begins (Some flight) now done same =
       let within : IsFlightWithin flight t.index = subst (λ (job : Option Flight). IsJobWithin job t.index) same s.job in
       fate_begins flight done (fated_of t.index flight now done) within.file_begins
 
-  take_begins : (o : Option Flight) → Begins (take_effect t o)
+  pub take_begins : (o : Option Flight) → Begins (take_effect t o)
   take_begins None = none_begins (take_effect t None) refl
   take_begins (Some flight) = none_begins (take_effect t (Some flight)) refl
-
-  done_begins : (now : ℕ) (deed : Deed) → Begins (effect_done t now deed)
-  done_begins now (Store path len body) = store_begins now path body
-  done_begins now (Forget path locks below) = forget_begins path locks below
-  done_begins now Take = take_begins (taken t now)
-  done_begins now (Settle number done) = settle_begins t.job now done refl
-  done_begins now Stop = none_begins (effect_done t now Stop) refl
-
-  pub released_begin : (now : ℕ) (deed : Deed) (file : ℕ) → Contains (released_of t now deed) file → 2 ≤ file
-  released_begin now deed file there = by (refusal_of t deed) there
-    where
-      by : (r : Option DeskFault) → Contains (effect_unless r t now deed).released file → 2 ≤ file
-      by (Some fault) c = absurd (omega (arith, c.1))
-      by None c = done_begins now deed file c

@@ -172,7 +172,7 @@ job_moves None t u moves h = h
 job_moves (Some flight) t u moves h = moves flight h
 
 module _ (t : DeskTable) (s : IsSound t) where
-  quiet_sound : (e : Effect) → e.on_record ≡ None → e.waits ≡ None → e.job ≡ t.job → Sounds t e
+  pub quiet_sound : (e : Effect) → e.on_record ≡ None → e.waits ≡ None → e.job ≡ t.job → Sounds t e
   quiet_sound e none still same =
       let at : waited (recorded t.index e.on_record) e.waits ≡ t.index = ap (λ (r : Option Record). waited (recorded t.index r) e.waits) none ∙ ap (waited t.index) still in
       record {
@@ -247,25 +247,6 @@ module _ (t : DeskTable) (s : IsSound t) where
   settle_sound (Some flight) now done same noted =
       fate_sound flight done (fated_of t.index flight now done) (subst (λ (job : Option Flight). IsJobWithin job t.index) same s.job) noted (λ n is. loss_is t.index flight now done n is)
 
-  done_sound : (now : ℕ) (deed : Deed) → IsDeed t deed → refusal_of t deed ≡ None → Sounds t (effect_done t now deed)
-  done_sound now (Store path len body) is free = store_sound now path len body is.0 free (subst (λ (r : Option DeskFault). IsBodyUnless r t.index.next_file len body) free is.1)
-  done_sound now (Forget path locks below) is free = forget_sound path locks below (no_fault (queued_with path below t.index.entries) free)
-  done_sound now Take is free = take_sound now (taken t now) refl
-  done_sound now (Settle number done) is free = settle_sound t.job now done refl is
-  done_sound now Stop is free = record { index = s.index; job = s.job }
-
-  unless_sound : (now : ℕ) (deed : Deed) (r : Option DeskFault) → refusal_of t deed ≡ r → IsDeed t deed → Sounds t (effect_unless r t now deed)
-  unless_sound now deed (Some fault) at is = s
-  unless_sound now deed None at is = done_sound now deed is at
-
-  pub after_sound : (now : ℕ) (deed : Deed) → IsDeed t deed → IsSound (after t now deed)
-  after_sound now deed is = unless_sound now deed (refusal_of t deed) refl is
-
--- and so do all steps of a trace
-pub steps_sound : (t : DeskTable) (steps : List Step) → IsSound t → Legal t steps → IsSound (table_after t steps)
-steps_sound t [] s legal = s
-steps_sound t (x ∷ steps) s legal = steps_sound (after t x.now x.deed) steps (after_sound t s x.now x.deed legal.0.deed) legal.1
-
 -- what is put on record is a record
 module _ (t : DeskTable) (s : IsSound t) where
   abbrev pub Fits : Option Record → Type 0
@@ -275,7 +256,7 @@ module _ (t : DeskTable) (s : IsSound t) where
   known_file : (flight : Flight) → IsFlightWithin flight t.index → flight.body.file < 2 ^ 32
   known_file flight within = omega (arith, within.file_known, s.index.files_left)
 
-  store_record : (now : ℕ) (path : PathParts) (len : ℕ) (body : Option BodyId) → IsPath path → store_refusal t.index path len ≡ None → IsBodyUnless None t.index.next_file len body → Fits (store_effect t path now body).on_record
+  pub store_record : (now : ℕ) (path : PathParts) (len : ℕ) (body : Option BodyId) → IsPath path → store_refusal t.index path len ≡ None → IsBodyUnless None t.index.next_file len body → Fits (store_effect t path now body).on_record
   store_record now path len None is free h = tt
   store_record now path len (Some body) is free h =
       let f : IsFree t.index path len = store_free t.index path len s.index free in (
@@ -291,7 +272,7 @@ module _ (t : DeskTable) (s : IsSound t) where
   pub closed_record : (now : ℕ) (path : PathParts) (len : ℕ) (body : BodyId) → IsPath path → store_refusal t.index path len ≡ None → IsBodyUnless None t.index.next_file len (Some body) → IsRecord (records.Closed (bare path) body)
   closed_record now path len body is free h = store_record now path len (Some body) is free h
 
-  forget_record : (path : PathParts) (locks below : Bool) → IsPath path → (items : List Item) → Fits (forgot_record path locks below items)
+  pub forget_record : (path : PathParts) (locks below : Bool) → IsPath path → (items : List Item) → Fits (forgot_record path locks below items)
   forget_record path locks below is [] = tt
   forget_record path locks below is (x ∷ xs) = is
 
@@ -313,20 +294,6 @@ module _ (t : DeskTable) (s : IsSound t) where
   settle_record (Some flight) now done same noted =
       fate_record flight done (fated_of t.index flight now done) (subst (λ (job : Option Flight). IsJobWithin job t.index) same s.job) noted (λ n is. loss_is t.index flight now done n is)
 
-  take_record : (o : Option Flight) → Fits (take_effect t o).on_record
+  pub take_record : (o : Option Flight) → Fits (take_effect t o).on_record
   take_record None = tt
   take_record (Some flight) = tt
-
-  done_record : (now : ℕ) (deed : Deed) → IsDeed t deed → refusal_of t deed ≡ None → Fits (effect_done t now deed).on_record
-  done_record now (Store path len body) is free = store_record now path len body is.0 free (subst (λ (r : Option DeskFault). IsBodyUnless r t.index.next_file len body) free is.1)
-  done_record now (Forget path locks below) is free = forget_record path locks below is (going path below t.index.entries)
-  done_record now Take is free = take_record (taken t now)
-  done_record now (Settle number done) is free = settle_record t.job now done refl is
-  done_record now Stop is free = tt
-
-  unless_record : (now : ℕ) (deed : Deed) (r : Option DeskFault) → refusal_of t deed ≡ r → IsDeed t deed → Fits (effect_unless r t now deed).on_record
-  unless_record now deed (Some fault) at is = tt
-  unless_record now deed None at is = done_record now deed is at
-
-  pub is_record : (now : ℕ) (deed : Deed) (r : Record) → IsDeed t deed → record_of t now deed ≡ Some r → IsRecord r
-  is_record now deed r is at = subst Fits at (unless_record now deed (refusal_of t deed) refl is)

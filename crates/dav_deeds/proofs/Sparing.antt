@@ -1,6 +1,6 @@
 -- The memory that the end of a job needs.
 use Rattle.std.proofs.Common.{◌≡◌, ℕ, ◌+◌, ◌≤◌, Bool, true, false, List, [], ◌∷◌, length, max, Option, Some, None, nat_eq, if◌then◌else◌, refl, sym, ◌∙◌, ap, subst, arith}
-use Rattle.std.proofs.lemmas.Bool.{false≢true, eqb-true}
+use Rattle.std.proofs.lemmas.Bool.{eq-eqb}
 use Rattle.dav_text.specs.Path.{PathParts}
 use Rattle.dav_store.specs.Body.{id_of}
 use Rattle.dav_store.specs.declared.body_id.BodyId.{BodyId}
@@ -13,29 +13,26 @@ use Rattle.dav_index.specs.declared.record.Record.{Record}
 use Rattle.dav_index.specs.declared.record.Record.TheVariants as records
 use Rattle.dav_index.specs.declared.table.Table.{Table}
 use Rattle.dav_deeds.specs.DeskTable.{DeskTable}
-use Rattle.dav_deeds.specs.Effects.{Wait, Effect, going, forgot_record, taken, tried, take_effect, store_effect, forget_effect, settle_effect, effect_done, effect_unless, fated_of, record_of_fate, waited, recorded, changed, after, told_of}
+use Rattle.dav_deeds.specs.Effects.{Wait, Effect, going, forgot_record, taken, tried, take_effect, store_effect, forget_effect, settle_effect, effect_done, effect_unless, effect_of, fated_of, settle_by_fate, record_of_fate, waited, recorded, changed, after, told_of}
 use Rattle.dav_deeds.specs.Legal.{IsDone, body_unless, deed_of}
 use Rattle.dav_deeds.specs.Made.{AreRecords}
 use Rattle.dav_deeds.specs.Refusals.{store_refusal, job_fault, refusal_of}
 use Rattle.dav_deeds.specs.Sound.{IsSound}
-use Rattle.dav_deeds.specs.Spare.{HasNext, IsSpare, HasSpareOf, HasSpare, IsNoSpare, IsSpareTaken, IsSaved, kept_spare, ends_job}
+use Rattle.dav_deeds.specs.Spare.{HasNext, IsSpare, HasSpareOf, HasSpare, IsNoSpare, IsSpareTaken, IsSaved, kept_spare}
 use Rattle.dav_deeds.specs.declared.answer.Fated.{Fated}
 use Rattle.dav_deeds.specs.declared.answer.Fated.TheVariants as fates
 use Rattle.dav_deeds.specs.declared.answer.Flight.{Flight}
 use Rattle.dav_deeds.specs.declared.answer.Told.TheVariants as answers
-use Rattle.dav_deeds.specs.declared.ask.Ask.{Ask}
-use Rattle.dav_deeds.specs.declared.ask.Ask.TheVariants as asks
 use Rattle.dav_deeds.specs.declared.ask.Done.{Done}
 use Rattle.dav_deeds.specs.declared.deed.Deed.{Deed}
-use Rattle.dav_deeds.specs.declared.deed.Deed.TheVariants.{Store, Forget, Take, Settle, Stop}
+use Rattle.dav_deeds.specs.declared.deed.Deed.TheVariants as deeds
 use Rattle.dav_deeds.specs.declared.fault.DeskFault.{DeskFault}
 use Rattle.dav_deeds.specs.declared.fault.DeskFault.TheVariants.{NoSuchJob}
 use Rattle.dav_deeds.specs.declared.spare.Spare.{Spare}
-use Rattle.dav_deeds.proofs.Making.{settled_effect}
 use Rattle.dav_deeds.proofs.Sounds.{Fits, settle_record, loss_is}
 
 -- what the end of the job puts on record is a record
-fits_are : (t : DeskTable) (s : IsSound t) (o : Option Record) → Fits t s o → AreRecords o
+pub fits_are : (t : DeskTable) (s : IsSound t) (o : Option Record) → Fits t s o → AreRecords o
 fits_are t s None h = tt
 fits_are t s (Some r) h = h
 
@@ -79,7 +76,7 @@ waited_like t (Some w) = (refl, refl, refl)
 
 -- nothing was taken, and the table went on by at most one record, which loses nothing
 module _ (t : Table) (job : Option Flight) (old : Option Spare) (is : HasSpareOf t job old) where
-  unsaved : (u : Table) (saved : Option Spare) → u.next_lost ≡ t.next_lost → u.lost ≡ t.lost → u.records ≤ t.records + 1 → IsNoSpare t saved → HasSpareOf u job (kept_spare saved old)
+  pub unsaved : (u : Table) (saved : Option Spare) → u.next_lost ≡ t.next_lost → u.lost ≡ t.lost → u.records ≤ t.records + 1 → IsNoSpare t saved → HasSpareOf u job (kept_spare saved old)
   unsaved u None number lost count two = has_like t u job old number lost (omega (arith, count, two)) is
   unsaved u (Some s) number lost count none = absurd none
 
@@ -95,20 +92,20 @@ module _ (t : DeskTable) (old saved : Option Spare) (is : HasSpare t old) where
   abbrev Holds : Effect → Type 0
   Holds e = IsSaved t.index e.told saved → HasSpareOf (changed t e).index (changed t e).job (kept_spare saved old)
 
-  store_holds : (path : PathParts) (now : ℕ) (body : Option BodyId) → Holds (store_effect t path now body)
+  pub store_holds : (path : PathParts) (now : ℕ) (body : Option BodyId) → Holds (store_effect t path now body)
   store_holds path now None taken = unsaved t.index t.job old is t.index saved refl refl (omega arith) taken
   store_holds path now (Some body) taken =
       let e = store_effect t path now (Some body) in
       unsaved_waits t.index t.job old is (recorded t.index e.on_record) e.waits saved (max_none t.index.next_lost) refl (omega arith) taken
 
-  forget_holds : (path : PathParts) (locks below : Bool) → Holds (forget_effect t path locks below)
+  pub forget_holds : (path : PathParts) (locks below : Bool) → Holds (forget_effect t path locks below)
   forget_holds path locks below taken = by (going path below t.index.entries)
     where
       by : (items : List Item) → HasSpareOf (recorded t.index (forgot_record path locks below items)) t.job (kept_spare saved old)
       by [] = unsaved t.index t.job old is t.index saved refl refl (omega arith) taken
       by (x ∷ xs) = unsaved t.index t.job old is (replay t.index (records.Forgot path locks below)) saved (max_none t.index.next_lost) refl (omega arith) taken
 
-  take_holds : (o : Option Flight) → Holds (take_effect t o)
+  pub take_holds : (o : Option Flight) → Holds (take_effect t o)
   take_holds None given = unsaved t.index t.job old is t.index saved refl refl (omega arith) given
   take_holds (Some flight) given = by saved given
     where
@@ -118,95 +115,15 @@ module _ (t : DeskTable) (old saved : Option Spare) (is : HasSpare t old) where
           let like = waited_like t.index (tried t flight) in
           spare_like t.index (waited t.index (tried t flight)) flight s like.0 like.1 (omega (arith, like.2, h.1)) h.0
 
-  settle_holds : (job : Option Flight) (now : ℕ) (done : Done) → Holds (settle_effect t job now done)
+  pub settle_holds : (job : Option Flight) (now : ℕ) (done : Done) → Holds (settle_effect t job now done)
   settle_holds None now done taken = unsaved t.index t.job old is t.index saved refl refl (omega arith) taken
   settle_holds (Some flight) now done taken = tt
 
-  done_holds : (now : ℕ) (deed : Deed) → Holds (effect_done t now deed)
-  done_holds now (Store path len body) taken = store_holds path now body taken
-  done_holds now (Forget path locks below) taken = forget_holds path locks below taken
-  done_holds now Take given = take_holds (taken t now) given
-  done_holds now (Settle number done) taken = settle_holds t.job now done taken
-  done_holds now Stop taken = unsaved t.index t.job old is t.index saved refl refl (omega arith) taken
-
-  unless_holds : (now : ℕ) (deed : Deed) (r : Option DeskFault) → Holds (effect_unless r t now deed)
-  unless_holds now deed (Some fault) taken = unsaved t.index t.job old is t.index saved refl refl (omega arith) taken
-  unless_holds now deed None taken = done_holds now deed taken
-
--- after a deed the memory is there that the end of the job in flight needs
-pub spare_after : (t : DeskTable) (now : ℕ) (deed : Deed) (old saved : Option Spare) → HasSpare t old → IsSaved t.index (told_of t now deed) saved → HasSpare (after t now deed) (kept_spare saved old)
-spare_after t now deed old saved is taken = unless_holds t old saved is now deed (refusal_of t deed) taken
-
--- only the end of a job is told as one, and then no job is in flight
-done_frees : (t : DeskTable) (now : ℕ) (deed : Deed) (fated : Fated) → (effect_done t now deed).told ≡ Some (answers.Settled fated) → (effect_done t now deed).job ≡ None
-done_frees t now (Store path len None) fated is = cc is
-done_frees t now (Store path len (Some body)) fated is = cc is
-done_frees t now (Forget path locks below) fated is = cc is
-done_frees t now Take fated is = by (taken t now) is
+-- a settling of the job in flight
+pub settled_effect : (t : DeskTable) (now job : ℕ) (done : Done) (flight : Flight) → t.job ≡ Some flight → flight.number ≡ job → effect_of t now (deeds.Settle job done) ≡ settle_by_fate t flight done (fated_of t.index flight now done)
+settled_effect t now job done flight flies same =
+    ap (λ (r : Option DeskFault). effect_unless r t now (deeds.Settle job done)) free
+    ∙ ap (λ (o : Option Flight). settle_effect t o now done) flies
   where
-    by : (o : Option Flight) → (take_effect t o).told ≡ Some (answers.Settled fated) → (take_effect t o).job ≡ None
-    by None same = cc same
-    by (Some flight) same = cc same
-done_frees t now (Settle number done) fated is = by t.job is
-  where
-    by : (job : Option Flight) → (settle_effect t job now done).told ≡ Some (answers.Settled fated) → (settle_effect t job now done).job ≡ None
-    by None same = cc same
-    by (Some flight) same = refl
-done_frees t now Stop fated is = cc is
-
-pub settled_frees : (t : DeskTable) (now : ℕ) (deed : Deed) (fated : Fated) → told_of t now deed ≡ Some (answers.Settled fated) → (after t now deed).job ≡ None
-settled_frees t now deed fated is = by (refusal_of t deed) is
-  where
-    by : (r : Option DeskFault) → (effect_unless r t now deed).told ≡ Some (answers.Settled fated) → (effect_unless r t now deed).job ≡ None
-    by (Some fault) same = cc same
-    by None same = done_frees t now deed fated same
-
--- what the end of the job in flight comes to
-pub end_told : (t : DeskTable) (now : ℕ) (ask : Ask) → ends_job t.job ask ≡ true → (fated : Fated) × (told_of t now (deed_of t ask) ≡ Some (answers.Settled fated))
-end_told t now (asks.Store path bytes) ends = absurd (false≢true ends)
-end_told t now (asks.Forget path locks below) ends = absurd (false≢true ends)
-end_told t now asks.Take ends = absurd (false≢true ends)
-end_told t now (asks.Settle number done) ends = by t.job refl ends
-  where
-    by : (job : Option Flight) → t.job ≡ job → ends_job job (asks.Settle number done) ≡ true → (fated : Fated) × (told_of t now (Settle number done) ≡ Some (answers.Settled fated))
-    by None at same = absurd (false≢true same)
-    by (Some flight) at same = (fated_of t.index flight now done, ap (λ (e : Effect). e.told) (settled_effect t now number done flight at (eqb-true flight.number number same)))
-end_told t now asks.Stop ends = absurd (false≢true ends)
-
--- what is told as the end of a job is the end of the one in flight
-pub settled_ends : (t : DeskTable) (now : ℕ) (ask : Ask) (fated : Fated) → told_of t now (deed_of t ask) ≡ Some (answers.Settled fated) → ends_job t.job ask ≡ true
-settled_ends t now (asks.Store path bytes) fated is = by (store_refusal t.index path (length bytes)) (body_unless (store_refusal t.index path (length bytes)) (id_of t.index.next_file bytes)) is
-  where
-    by : (r : Option DeskFault) (body : Option BodyId) → (effect_unless r t now (Store path (length bytes) body)).told ≡ Some (answers.Settled fated) → false ≡ true
-    by (Some fault) body same = cc same
-    by None None same = cc same
-    by None (Some b) same = cc same
-settled_ends t now (asks.Forget path locks below) fated is = by (refusal_of t (Forget path locks below)) is
-  where
-    by : (r : Option DeskFault) → (effect_unless r t now (Forget path locks below)).told ≡ Some (answers.Settled fated) → false ≡ true
-    by (Some fault) same = cc same
-    by None same = cc same
-settled_ends t now asks.Take fated is = by (taken t now) is
-  where
-    by : (o : Option Flight) → (take_effect t o).told ≡ Some (answers.Settled fated) → false ≡ true
-    by None same = cc same
-    by (Some flight) same = cc same
-settled_ends t now (asks.Settle number done) fated is = by t.job is
-  where
-    test : (flight : Flight) (b : Bool) → (effect_unless (if b then None else Some (NoSuchJob number)) t now (Settle number done)).told ≡ Some (answers.Settled fated) → b ≡ true
-    test flight true same = refl
-    test flight false same = cc same
-
-    by : (job : Option Flight) → (effect_unless (job_fault number job) t now (Settle number done)).told ≡ Some (answers.Settled fated) → ends_job job (asks.Settle number done) ≡ true
-    by None same = cc same
-    by (Some flight) same = test flight (nat_eq flight.number number) same
-settled_ends t now asks.Stop fated is = cc is
-
--- only where a job is in flight an ask is its end
-pub end_flies : (job : Option Flight) (ask : Ask) → ends_job job ask ≡ true → (flight : Flight) × (job ≡ Some flight)
-end_flies None (asks.Store path bytes) ends = absurd (false≢true ends)
-end_flies None (asks.Forget path locks below) ends = absurd (false≢true ends)
-end_flies None asks.Take ends = absurd (false≢true ends)
-end_flies None (asks.Settle number done) ends = absurd (false≢true ends)
-end_flies None asks.Stop ends = absurd (false≢true ends)
-end_flies (Some flight) ask ends = (flight, refl)
+    free : job_fault job t.job ≡ None
+    free = ap (job_fault job) flies ∙ ap (λ (b : Bool). if b then None else Some (NoSuchJob job)) (eq-eqb flight.number job same)

@@ -27,9 +27,9 @@ use Rattle.dav_deeds.specs.Refusals.{job_fault, refusal_of}
 use Rattle.dav_deeds.specs.Effects.{store_effect, going, forgot_record, forget_effect, tried, take_effect, taken, fated_of, settle_effect, settle_by_fate, effect_done, effect_unless, is_current, recorded, changed, after, mark_of}
 use Rattle.dav_deeds.specs.Legal.{IsLegal, table_after, Legal}
 use Rattle.dav_deeds.specs.Fate.{Fate, Queued, Sent, Lost, Story, tell, told_on, story, IsSentAt, IsLostAs, IsKeptAs, IsKept}
-use Rattle.dav_deeds.proofs.Fits.{Fits, StepFits, step_fits}
-use Rattle.dav_deeds.proofs.Queued.{waited_lost, lost_before}
-use Rattle.dav_deeds.proofs.Taking.{table_push, find_take}
+use Rattle.dav_deeds.proofs.AllRows.{step_fits, lost_step, find_take}
+use Rattle.dav_deeds.proofs.Fits.{Fits, StepFits}
+use Rattle.dav_deeds.proofs.Taking.{table_push}
 
 -- the steps in front of legal ones are legal
 pub legal_front : (t : DeskTable) (front rest : List Step) → Legal t (front ++ rest) → Legal t front
@@ -120,54 +120,6 @@ module _ (opening : DeskTable) (none : opening.job ≡ None) (whole : List Step)
 
   pub last_close : Legal opening whole → IsKeptAs opening whole (table_after opening whole).index path (story opening whole path).last (story opening whole path).fate
   last_close legal = kept_as (table_after opening whole).index (story opening whole path).last (story opening whole path).fate (fated legal)
-
--- what was lost stays so
-settle_keeps : (t : DeskTable) (x : LostItem) (flight : Flight) (done : Done) (fated : Fated) → Contains t.index.lost x → Contains (changed t (settle_by_fate t flight done fated)).index.lost x
-settle_keeps t x flight (ends.Sent seen) fates.Clean there = there
-settle_keeps t x flight (ends.Sent seen) fates.Superseded there = there
-settle_keeps t x flight (ends.Sent seen) (fates.Waits n due) there = there
-settle_keeps t x flight (ends.Sent seen) (fates.Lost n) there = there
-settle_keeps t x flight (ends.Again after) fates.Clean there = there
-settle_keeps t x flight (ends.Again after) fates.Superseded there = there
-settle_keeps t x flight (ends.Again after) (fates.Waits n due) there = there
-settle_keeps t x flight (ends.Again after) (fates.Lost n) there = lost_before flight.path n t.index x there
-settle_keeps t x flight ends.Refused fates.Clean there = there
-settle_keeps t x flight ends.Refused fates.Superseded there = there
-settle_keeps t x flight ends.Refused (fates.Waits n due) there = there
-settle_keeps t x flight ends.Refused (fates.Lost n) there = lost_before flight.path n t.index x there
-
-settling_keeps : (t : DeskTable) (x : LostItem) (job : Option Flight) (now : ℕ) (done : Done) → Contains t.index.lost x → Contains (changed t (settle_effect t job now done)).index.lost x
-settling_keeps t x None now done there = there
-settling_keeps t x (Some flight) now done there = settle_keeps t x flight done (fated_of t.index flight now done) there
-
-store_keeps : (t : DeskTable) (x : LostItem) (p : PathParts) (now : ℕ) (body : Option BodyId) → Contains t.index.lost x → Contains (changed t (store_effect t p now body)).index.lost x
-store_keeps t x p now None there = there
-store_keeps t x p now (Some b) there = there
-
-take_keeps : (t : DeskTable) (x : LostItem) (job : Option Flight) → Contains t.index.lost x → Contains (changed t (take_effect t job)).index.lost x
-take_keeps t x None there = there
-take_keeps t x (Some flight) there = subst (λ (ls : List LostItem). Contains ls x) (sym (waited_lost t.index (tried t flight))) there
-
-forget_keeps : (t : DeskTable) (x : LostItem) (p : PathParts) (locks below : Bool) → Contains t.index.lost x → Contains (changed t (forget_effect t p locks below)).index.lost x
-forget_keeps t x p locks below there = by (going p below t.index.entries)
-  where
-    by : (items : List Item) → Contains (recorded t.index (forgot_record p locks below items)).lost x
-    by [] = there
-    by (y ∷ ys) = there
-
-done_keeps : (t : DeskTable) (now : ℕ) (deed : Deed) (x : LostItem) → Contains t.index.lost x → Contains (changed t (effect_done t now deed)).index.lost x
-done_keeps t now (Store p len body) x there = store_keeps t x p now body there
-done_keeps t now (Forget p locks below) x there = forget_keeps t x p locks below there
-done_keeps t now Take x there = take_keeps t x (taken t now) there
-done_keeps t now (Settle number done) x there = settling_keeps t x t.job now done there
-done_keeps t now Stop x there = there
-
-lost_step : (t : DeskTable) (now : ℕ) (deed : Deed) (x : LostItem) → Contains t.index.lost x → Contains (after t now deed).index.lost x
-lost_step t now deed x there = by (refusal_of t deed)
-  where
-    by : (r : Option DeskFault) → Contains (changed t (effect_unless r t now deed)).index.lost x
-    by (Some fault) = there
-    by None = done_keeps t now deed x there
 
 lost_stays : (t : DeskTable) (steps : List Step) (x : LostItem) → Contains t.index.lost x → Contains (table_after t steps).index.lost x
 lost_stays t [] x there = there

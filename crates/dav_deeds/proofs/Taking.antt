@@ -93,64 +93,10 @@ pub record IsTakenNow (t : DeskTable) (deed : Deed) (told : Option Told) (flight
   pub told_is : told ≡ Some (answers.Took flight)
   pub of_table : IsOfTable flight t.index
 
-settled_job : (t : DeskTable) (job : Option Flight) (now : ℕ) (done : Done) (flight : Flight) → t.job ≡ job → (settle_effect t job now done).job ≡ Some flight → t.job ≡ Some flight
-settled_job t None now done flight same is = is
-settled_job t (Some j) now done flight same is = cc
-
-store_job : (t : DeskTable) (p : PathParts) (now : ℕ) (body : Option BodyId) → (store_effect t p now body).job ≡ t.job
+pub store_job : (t : DeskTable) (p : PathParts) (now : ℕ) (body : Option BodyId) → (store_effect t p now body).job ≡ t.job
 store_job t p now None = refl
 store_job t p now (Some b) = refl
-
-done_job : (t : DeskTable) (now : ℕ) (deed : Deed) (flight : Flight) → (effect_done t now deed).job ≡ Some flight → (t.job ≡ Some flight) ⊎ IsTakenNow t deed (effect_done t now deed).told flight
-done_job t now (Store p len body) flight is = inl (sym (store_job t p now body) ∙ is)
-done_job t now (Forget p locks below) flight is = inl is
-done_job t now Stop flight is = inl is
-done_job t now (Settle number done) flight is = inl (settled_job t t.job now done flight refl is)
-done_job t now Take flight is = by (taken t now) refl is
-  where
-    by : (o : Option Flight) → taken t now ≡ o → (take_effect t o).job ≡ Some flight → (t.job ≡ Some flight) ⊎ IsTakenNow t Take (take_effect t (taken t now)).told flight
-    by None none is = inl is
-    by (Some f) some is =
-        let same : f ≡ flight = cc in
-        let took : taken t now ≡ Some flight = some ∙ ap (λ (f : Flight). Some f) same in
-        inr (record { deed_is = refl; told_is = ap (λ (o : Option Flight). (take_effect t o).told) took; of_table = (taken_of t now flight took).1 })
-
-unless_job : (t : DeskTable) (now : ℕ) (deed : Deed) (r : Option DeskFault) (flight : Flight) → (effect_unless r t now deed).job ≡ Some flight → (t.job ≡ Some flight) ⊎ IsTakenNow t deed (effect_unless r t now deed).told flight
-unless_job t now deed (Some fault) flight is = inl is
-unless_job t now deed None flight is = done_job t now deed flight is
-
-pub job_step : (t : DeskTable) (now : ℕ) (deed : Deed) (flight : Flight) → (after t now deed).job ≡ Some flight → (t.job ≡ Some flight) ⊎ IsTakenNow t deed (told_of t now deed) flight
-job_step t now deed flight is = unless_job t now deed (refusal_of t deed) flight is
 
 pub table_push : (t : DeskTable) (steps : List Step) (s : Step) → table_after t (steps ++ s ∷ []) ≡ after (table_after t steps) s.now s.deed
 table_push t [] s = refl
 table_push t (x ∷ steps) s = table_push (after t x.now x.deed) steps s
-
-pub find_take : (opening : DeskTable) (flight : Flight) (front rest : List Step) (t : DeskTable) → table_after opening front ≡ t → Legal t rest → (t.job ≡ Some flight → IsTaken opening front flight) → (table_after t rest).job ≡ Some flight → IsTaken opening (front ++ rest) flight
-find_take opening flight front [] t at legal so_far is = subst (λ (l : List Step). IsTaken opening l flight) (sym (append-nil front)) (so_far is)
-find_take opening flight front (s ∷ rest) t at legal so_far is =
-    subst (λ (l : List Step). IsTaken opening l flight) (append_assoc front (s ∷ []) rest)
-    (find_take opening flight (front ++ s ∷ []) rest (after t s.now s.deed) (table_push opening front s ∙ ap (λ (t : DeskTable). after t s.now s.deed) at) legal.1 (λ here. by (job_step t s.now s.deed flight here)) is)
-  where
-    more : IsTaken opening front flight → IsTaken opening (front ++ s ∷ []) flight
-    more k = record {
-      before = k.before;
-      take = k.take;
-      since = k.since ++ s ∷ [];
-      split = ap (λ (l : List Step). l ++ s ∷ []) k.split ∙ append_assoc k.before (k.take ∷ k.since) (s ∷ []);
-      deed_is = k.deed_is;
-      told_is = k.told_is;
-      of_table = k.of_table;
-    }
-
-    by : (t.job ≡ Some flight) ⊎ IsTakenNow t s.deed (told_of t s.now s.deed) flight → IsTaken opening (front ++ s ∷ []) flight
-    by (inl h) = more (so_far h)
-    by (inr h) = record {
-      before = front;
-      take = s;
-      since = [];
-      split = refl;
-      deed_is = h.deed_is;
-      told_is = legal.0.told ∙ h.told_is;
-      of_table = subst (λ (u : DeskTable). IsOfTable flight u.index) (sym at) h.of_table;
-    }

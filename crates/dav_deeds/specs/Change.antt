@@ -6,7 +6,7 @@ use Rattle.dav_index.specs.declared.record.Record.{Record}
 use Rattle.dav_index.specs.declared.table.Table.{Table}
 use Rattle.dav_deeds.specs.declared.answer.Flight.{Flight}
 use Rattle.dav_deeds.specs.declared.answer.Told.{Told}
-use Rattle.dav_deeds.specs.declared.answer.Told.TheVariants.{Closed, Forgot, Took, Idle, Settled, Stopping}
+use Rattle.dav_deeds.specs.declared.answer.Told.TheVariants.{Idle}
 use Rattle.dav_deeds.specs.declared.ask.Ask.{Ask}
 use Rattle.dav_deeds.specs.declared.ask.Who.{Who}
 use Rattle.dav_deeds.specs.declared.deed.Deed.{Deed}
@@ -16,6 +16,7 @@ use Rattle.dav_deeds.specs.declared.plan.NextJob.TheVariants.{Same, Taken, Ended
 use Rattle.dav_deeds.specs.declared.plan.Noting.{Noting}
 use Rattle.dav_deeds.specs.declared.plan.Planned.{Planned}
 use Rattle.dav_deeds.specs.declared.plan.Waits.{Waits}
+use Rattle.dav_deeds.specs.Answers.{is_idle, kind_told}
 use Rattle.dav_deeds.specs.DeskTable.{DeskTable}
 use Rattle.dav_deeds.specs.Effects.{Wait, Effect, after, effect_of}
 use Rattle.dav_deeds.specs.Legal.{IsDeed, deed_of}
@@ -68,20 +69,10 @@ pub record CanChange (t : DeskTable) (c : Change) : Type 0 where
   pub is_deed : IsDeed t deed
   pub change : IsChange t (effect_of t now deed) c
 
--- whether it is told that there is nothing to take
-abbrev pub is_idle : Option Told → Bool
-is_idle None = false
-is_idle (Some (Closed body)) = false
-is_idle (Some Forgot) = false
-is_idle (Some (Took flight)) = false
-is_idle (Some Idle) = true
-is_idle (Some (Settled fated)) = false
-is_idle (Some Stopping) = false
-
 -- the step with this effect, the row of its record, and its change
 pub record IsPlannedBy (t : DeskTable) (who : Who) (now : ℕ) (deed : Deed) (e : Effect) (planned : Planned) (row : List ℕ) : Type 0 where
   pub is_deed : IsDeed t deed
-  pub stands : is_idle e.told ≡ false
+  pub stands : is_idle (kind_told e.told) ≡ false
   pub step : planned.made.step ≡ record { who = who; now = now; deed = deed; mark = e.mark; told = e.told; moment = 0 }
   pub answer : planned.made.answer ≡ answer_by e.mark e.told
   pub released : planned.made.released.items ≡ e.released

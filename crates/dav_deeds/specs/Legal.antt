@@ -31,6 +31,11 @@ deed_of t asks.Take = Take
 deed_of t (asks.Settle job done) = Settle job done
 deed_of t asks.Stop = Stop
 
+-- the bytes that an ask brings for its new body
+abbrev pub bytes_in : Ask → List ℕ
+bytes_in (asks.Store path bytes) = bytes
+bytes_in ask = []
+
 -- what is said to be known of a file on the server isn't nothing
 abbrev pub IsDone : Done → Type 0
 IsDone (Sent seen) = IsNoted seen
@@ -63,10 +68,13 @@ IsDeed t Stop = Unit {0}
 -- the body that a deed names
 abbrev pub new_body : Deed → Option BodyId
 new_body (Store path len body) = body
-new_body (Forget path locks below) = None
-new_body Take = None
-new_body (Settle job done) = None
-new_body Stop = None
+new_body deed = None
+
+-- an ask of a shell: it takes no job and settles none
+abbrev pub IsOfShell : Ask → Type 0
+IsOfShell asks.Take = ⊥
+IsOfShell (asks.Settle job done) = ⊥
+IsOfShell ask = Unit {0}
 
 -- a step of a desk with this table. A take that finds nothing is no step
 pub record IsLegal (t : DeskTable) (s : Step) : Type 0 where

@@ -1,5 +1,5 @@
 -- The memory that the end of a job needs, whatever the end will be.
-use Rattle.std.specs.Prelude.{◌≡◌, ◌+◌, ◌<◌, ◌≤◌, Bool, false, [], length, Option, Some, None}
+use Rattle.std.specs.Prelude.{◌≡◌, ℕ, ◌+◌, ◌<◌, ◌≤◌, Bool, false, [], length, Option, Some, None}
 use Rattle.std.specs.Prelude.{nat_eq}
 use Rattle.std.specs.Vec.{vec_capacity}
 use Rattle.dav_index.specs.Ready.{HasLoss}
@@ -8,11 +8,13 @@ use Rattle.dav_index.specs.declared.record.Record.TheVariants.{Lost}
 use Rattle.dav_index.specs.declared.table.Table.{Table}
 use Rattle.dav_deeds.specs.declared.answer.Flight.{Flight}
 use Rattle.dav_deeds.specs.declared.answer.Told.{Told}
-use Rattle.dav_deeds.specs.declared.answer.Told.TheVariants.{Closed, Forgot, Took, Idle, Settled, Stopping}
 use Rattle.dav_deeds.specs.declared.ask.Ask.{Ask}
 use Rattle.dav_deeds.specs.declared.ask.Ask.TheVariants as asks
+use Rattle.dav_deeds.specs.declared.deed.Deed.{Deed}
+use Rattle.dav_deeds.specs.declared.deed.Deed.TheVariants as deeds
 use Rattle.dav_deeds.specs.declared.spare.Rows.{Rows}
 use Rattle.dav_deeds.specs.declared.spare.Spare.{Spare}
+use Rattle.dav_deeds.specs.Answers.{Kind, Tells, Gives, Idles, Ends, kind_told}
 use Rattle.dav_deeds.specs.DeskTable.{DeskTable}
 
 -- one record more can be counted, and two
@@ -58,25 +60,35 @@ IsSpareTaken t flight (Some spare) = IsSpare t flight spare × HasTwo t
 
 -- what is taken with an answer: with a job what its end needs, and else nothing. But for the end of a job there is a number for a
 -- record of this step and for one more.
+abbrev pub IsSavedBy : Table → Kind → Option Spare → Type 0
+IsSavedBy t Tells saved = IsNoSpare t saved
+IsSavedBy t (Gives flight) saved = IsSpareTaken t flight saved
+IsSavedBy t Idles saved = IsNoSpare t saved
+IsSavedBy t Ends saved = saved ≡ None
+
 abbrev pub IsSaved : Table → Option Told → Option Spare → Type 0
-IsSaved t None saved = IsNoSpare t saved
-IsSaved t (Some (Closed body)) saved = IsNoSpare t saved
-IsSaved t (Some Forgot) saved = IsNoSpare t saved
-IsSaved t (Some (Took flight)) saved = IsSpareTaken t flight saved
-IsSaved t (Some Idle) saved = IsNoSpare t saved
-IsSaved t (Some (Settled fated)) saved = saved ≡ None
-IsSaved t (Some Stopping) saved = IsNoSpare t saved
+IsSaved t told saved = IsSavedBy t (kind_told told) saved
 
 -- what is taken stands in place of what was there
 abbrev pub kept_spare : Option Spare → Option Spare → Option Spare
 kept_spare None old = old
 kept_spare (Some spare) old = Some spare
 
+-- the number of the job that an ask, or a deed, ends
+abbrev pub job_ended : Ask → Option ℕ
+job_ended (asks.Settle number done) = Some number
+job_ended ask = None
+
+abbrev pub deed_ends : Deed → Option ℕ
+deed_ends (deeds.Settle number done) = Some number
+deed_ends deed = None
+
+-- whether it is the number of the job in flight
+abbrev pub is_flight : Option Flight → Option ℕ → Bool
+is_flight job None = false
+is_flight None (Some number) = false
+is_flight (Some flight) (Some number) = nat_eq flight.number number
+
 -- whether the ask is the end of the job in flight
 abbrev pub ends_job : Option Flight → Ask → Bool
-ends_job job (asks.Store path bytes) = false
-ends_job job (asks.Forget path locks below) = false
-ends_job job asks.Take = false
-ends_job None (asks.Settle number done) = false
-ends_job (Some flight) (asks.Settle number done) = nat_eq flight.number number
-ends_job job asks.Stop = false
+ends_job job ask = is_flight job (job_ended ask)

@@ -107,9 +107,29 @@ impl Flight {
 
 impl Told {
     ghost use Rattle.std.specs.Prelude.{◌≡◌, IfOk};
-    ghost use Rattle.dav_deeds.specs.Answers.{answer_of};
+    ghost use Rattle.dav_deeds.specs.Answers.{answer_of, body_wanted, is_end as is_end_lem, kind_of};
 
-    /// The answer, where these are the bytes of the body of a job.
+    /// Whether this is told of the end of a job.
+    pub fn is_end(&self) -> bool
+        ensures { result ≡ is_end_lem (kind_of self.now) }
+    {
+        match self {
+            Told::Settled(_) => true,
+            _ => false,
+        }
+    }
+
+    /// The body whose bytes belong to the answer.
+    pub fn body(&self) -> Option<BodyId>
+        ensures { result ≡ body_wanted self.now }
+    {
+        match self {
+            Told::Took(flight) => Some(flight.body),
+            _ => None,
+        }
+    }
+
+    /// The answer, where these are the bytes of the body that it names.
     pub fn with_bytes(self, bytes: Blob) -> Answer
         ensures { result ≡ answer_of self bytes }
     {

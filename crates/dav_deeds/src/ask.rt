@@ -60,6 +60,20 @@ pub enum Done {
     Refused,
 }
 
+impl Ask {
+    ghost use Rattle.dav_deeds.specs.Legal.{bytes_in};
+
+    /// The bytes that it brings for a new body.
+    pub fn bytes(&self) -> &[u8]
+        ensures { result.now ≡ bytes_in self.now }
+    {
+        match self {
+            Ask::Store { bytes, .. } => bytes.as_slice(),
+            _ => b"",
+        }
+    }
+}
+
 impl Done {
     /// The same again.
     pub fn copy(&self) -> Done

@@ -38,6 +38,21 @@ pub enum Deed {
     Stop,
 }
 
+impl Deed {
+    ghost use Rattle.std.specs.Prelude.{◌≡◌};
+    ghost use Rattle.dav_deeds.specs.Legal.{new_body};
+
+    /// The new body that it names.
+    pub fn body(&self) -> Option<BodyId>
+        ensures { result ≡ new_body self.now }
+    {
+        match self {
+            Deed::Store { body, .. } => *body,
+            _ => None,
+        }
+    }
+}
+
 /// What a deed came to.
 #[derive(Debug, Drop)]
 pub enum Mark {

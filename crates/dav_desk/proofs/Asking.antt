@@ -84,7 +84,7 @@ module _ {D : Type 0} (honest : D → Type 0) (moment : D → ℕ) (seen : D →
   pub asked_missing : (e : DeskFault) → old.recorder.dead ≡ None → IsMissing (honest new.recorder.disk) (seen old.recorder.disk) (seen new.recorder.disk) (faults old.recorder.disk) (faults new.recorder.disk) (told_of old.table now (deed_of old.table ask)) e
       → (e ≡ Memory → (new.recorder.disk ≡ old.recorder.disk) × (new.recorder.dead ≡ old.recorder.dead)) → (e ≢ Memory → new.recorder.dead ≡ Some e)
       → new.recorder.under ≡ old.recorder.under → new.recorder.trace.steps.items ≡ old.recorder.trace.steps.items → new.table ≡ old.table → IsAsked honest moment seen faults who now ask old new (Err e)
-  asked_missing e alive missing starved stopped under items table = elim (end_of (honest new.recorder.disk) missing.flight.body (seen old.recorder.disk missing.flight.body.file) (faults old.recorder.disk) (faults new.recorder.disk) e missing.cause) [
+  asked_missing e alive missing starved stopped under items table = elim (end_of (honest new.recorder.disk) missing.body (seen old.recorder.disk missing.body.file) (faults old.recorder.disk) (faults new.recorder.disk) e missing.cause) [
     | inl want ↦ subst (λ (f : DeskFault). IsAsked honest moment seen faults who now ask old new (Err f)) (sym want) (asked_starved alive (starved want).0 (starved want).1 under items table)
     | inr end ↦ record {
       verdict = Stopped e;
@@ -92,7 +92,7 @@ module _ {D : Type 0} (honest : D → Type 0) (moment : D → ℕ) (seen : D →
       answer = refl;
       table = table;
       steps = items ∙ sym (append-nil old.recorder.trace.steps.items);
-      cause = inr (record { alive = alive; dead = stopped end.1; ends = end.0; cause = inr (record { flight = missing.flight; told = missing.is_told; cause = missing.cause; files = missing.files }); under = inl under });
+      cause = inr (record { alive = alive; dead = stopped end.1; ends = end.0; cause = inr (record { body = missing.body; told = missing.is_wanted; cause = missing.cause; files = missing.files }); under = inl under });
     }
   ]
 

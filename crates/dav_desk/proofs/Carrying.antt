@@ -5,16 +5,14 @@ use Rattle.dav_disk.specs.Disk.{Doubt}
 use Rattle.dav_machine.specs.Log.{Rose}
 use Rattle.dav_machine.proofs.Logs.{then_rose}
 use Rattle.dav_index.specs.Bounds.{bodies_of}
+use Rattle.dav_deeds.specs.Answers.{Ends, kind_told, wanted}
 use Rattle.dav_deeds.specs.DeskTable.{DeskTable}
 use Rattle.dav_deeds.specs.Change.{IsPlannedBy}
 use Rattle.dav_deeds.specs.Effects.{after, effect_of, told_of}
-use Rattle.dav_deeds.specs.Legal.{deed_of, table_after}
+use Rattle.dav_deeds.specs.Legal.{bytes_in, deed_of, table_after}
 use Rattle.dav_deeds.specs.Sound.{IsSound}
 use Rattle.dav_deeds.specs.declared.answer.Answer.{Answer}
-use Rattle.dav_deeds.specs.declared.answer.Flight.{Flight}
 use Rattle.dav_deeds.specs.declared.answer.Told.{Told}
-use Rattle.dav_deeds.specs.declared.answer.Fated.{Fated}
-use Rattle.dav_deeds.specs.declared.answer.Told.TheVariants.{Took, Settled}
 use Rattle.dav_deeds.specs.Spare.{HasSpare}
 use Rattle.dav_deeds.specs.declared.spare.Spare.{Spare}
 use Rattle.dav_deeds.specs.declared.ask.Ask.{Ask}
@@ -30,9 +28,11 @@ use Rattle.dav_recorder.specs.Planned.{kept_table}
 use Rattle.dav_recorder.specs.Survives.{IsLive, IsLeft}
 use Rattle.dav_recorder.specs.declared.recorder.Recorder.{Recorder}
 use Rattle.dav_recorder.proofs.LiveLemmas.{stamped}
+use Rattle.dav_store.specs.declared.body_id.BodyId.{BodyId}
+use Rattle.dav_deeds.proofs.Rows.{end_wants}
 use Rattle.dav_desk.specs.declared.desk.Desk.{Desk}
 use Rattle.dav_desk.specs.Ended.{IsAsked}
-use Rattle.dav_desk.specs.Entry.{bytes_in, IsEntry, IsMissing}
+use Rattle.dav_desk.specs.Entry.{IsEntry, IsMissing}
 use Rattle.dav_desk.specs.Verdict.{with_bytes}
 use Rattle.dav_desk.specs.Working.{AreGiven, IsReadied, IsWorking}
 use Rattle.dav_desk.proofs.Asking.{end_of, asked_starved, asked_missing, asked_failed, asked_went, stamped_is}
@@ -40,7 +40,7 @@ use Rattle.dav_desk.proofs.Entering.{live_left, planned_entry}
 use Rattle.dav_desk.specs.Room.{slots, HasSlotOf, IsHeldFor}
 use Rattle.dav_desk.proofs.Rooming.{room_like, held_room, slot_after}
 use Rattle.dav_desk.proofs.Going.{CanRecord, records_reserved, readied_alive, readied_dead, lives_reserved, works_still, works_on}
-use Rattle.dav_desk.proofs.Telling.{took_is, taken_named}
+use Rattle.dav_desk.proofs.Telling.{told_kept}
 
 -- the desk from before, the ask and its plan, and the recorder once there is room for a step more
 pub record Base {D : Type 0} (honest : D → Type 0) (moment : D → ℕ) (seen : D → ℕ → List ℕ) (past : D → ℕ → ℕ → Doubt) (old : Desk D) (ask : Ask) (planned : Planned) (row : List ℕ) (r : Recorder D) : Type 0 where
@@ -98,7 +98,7 @@ module _ {D : Type 0} (honest : D → Type 0) (moment : D → ℕ) (seen : D →
   pub starved_asked : IsAsked honest moment seen faults who now ask old (with_recorder r) (Err Memory)
   starved_asked = asked_starved honest moment seen faults who now ask old (with_recorder r) b.alive same_disk (same_dead ∙ sym b.alive) same_under b.room refl
 
-  pub starved_readied : ((fated : Fated) → planned.made.step.told ≡ Some (Settled fated) → ⊥) → IsReadied honest moment seen past (with_recorder r)
+  pub starved_readied : (kind_told planned.made.step.told ≡ Ends → ⊥) → IsReadied honest moment seen past (with_recorder r)
   starved_readied other = readied_alive honest moment seen past (with_recorder r) same_dead can_record (room_like old r b.room b.more (held_room old planned.made.step.told other b.held))
 
   pub starved_faults : faults old.recorder.disk ≤ faults r.disk
@@ -135,11 +135,14 @@ module _ {D : Type 0} (honest : D → Type 0) (moment : D → ℕ) (seen : D →
       missing_asked = asked_missing honest moment seen faults who now ask old (with_recorder q) e b.alive missing_old
           (λ want. ((starved want).0 ∙ same_disk, (starved want).1 ∙ same_dead ∙ sym b.alive)) stopped (k.trace.1 ∙ same_under) same_items refl
 
+      wants : kind_told planned.made.step.told ≡ Ends → ⊥
+      wants end = let no : None ≡ Some missing.body = sym (end_wants planned.made.step.told end) ∙ missing.is_wanted in cc no
+
       pub missing_readied : IsReadied honest moment seen past (with_recorder q)
-      missing_readied = elim (end_of (honest q.disk) missing.flight.body (seen r.disk missing.flight.body.file) (faults r.disk) (faults q.disk) e missing.cause) [
+      missing_readied = elim (end_of (honest q.disk) missing.body (seen r.disk missing.body.file) (faults r.disk) (faults q.disk) e missing.cause) [
         | inl want ↦ readied_alive honest moment seen past (with_recorder q) ((starved want).1 ∙ same_dead) (λ h. k.ready h (can_record (k.keeps h)))
             (room_like old q same_items (subst (λ (t : Trace). vec_capacity old.recorder.trace.steps ≤ vec_capacity t.steps) (sym k.trace.0) b.more)
-            (subst (λ (o : Option Told). IsHeldFor o old) missing.is_told b.held))
+            (held_room old planned.made.step.told wants b.held))
         | inr end ↦ readied_dead honest moment seen past (with_recorder q) e (stopped end.1) end.0
       ]
 
@@ -162,12 +165,12 @@ module _ {D : Type 0} (honest : D → Type 0) (moment : D → ℕ) (seen : D →
           (subst (λ (l : List ℕ). IsEntry old.table planned.made.step given l row freed) (sym bytes_is)
           (subst (λ (l : List ℕ). IsEntry old.table planned.made.step given (bytes_in ask) row l) (sym freed_is) entry))
 
-      -- the body of the job that is told is one of the table
-      pub read_named : (flight : Flight) → planned.made.step.told ≡ Some (Took flight) → Contains (bodies_of (kept_table (table_after opening r.trace.steps.items))) flight.body
-      read_named flight is_told =
+      -- the body whose bytes are told is one of the table
+      pub read_named : (body : BodyId) → wanted planned.made.step.told ≡ Some body → Contains (bodies_of (kept_table (table_after opening r.trace.steps.items))) body
+      read_named body is_told =
           let table : old.table ≡ table_after opening r.trace.steps.items = is.table ∙ ap (λ (l : List Step). table_after opening l) (sym b.room) in
-          subst (λ (t : DeskTable). Contains (bodies_of (kept_table t)) flight.body) table
-          (taken_named old.table now flight (took_is old.table now ask flight (sym told_is ∙ is_told)))
+          subst (λ (t : DeskTable). Contains (bodies_of (kept_table t)) body) table
+          (told_kept old.table now (deed_of old.table ask) body (ap wanted (sym told_is) ∙ is_told))
 
     -- the recorder once the step was to be put on the disk
     module _ (p : Recorder D) (later : faults q.disk ≤ faults p.disk) where

@@ -1,71 +1,41 @@
 -- Which files of its disk a desk changes, at each of its exits.
-use Rattle.std.proofs.Common.{◌≡◌, ◌≢◌, ℕ, List, [], length, Bool, Option, Some, None, Result, Ok, Err, IfOk, OnOk, refl, sym, ◌∙◌, subst, arith}
-use Rattle.dav_text.specs.Path.{PathParts}
+use Rattle.std.proofs.Common.{◌≡◌, ◌≢◌, ℕ, List, [], Option, Some, None, Result, Ok, Err, IfOk, OnOk, refl, sym, ◌∙◌, ap, subst, arith}
 use Rattle.dav_disk.specs.Disk.{Doubt}
-use Rattle.dav_store.specs.Body.{id_of}
 use Rattle.dav_store.specs.declared.body_id.BodyId.{BodyId}
-use Rattle.dav_index.specs.declared.record.Record.TheVariants as records
+use Rattle.dav_index.specs.declared.record.Record.{Record}
+use Rattle.dav_deeds.specs.Answers.{kind_told}
 use Rattle.dav_deeds.specs.DeskTable.{DeskTable}
-use Rattle.dav_deeds.specs.Effects.{bare, take_effect, settle_effect, taken, effect_unless, record_of, told_of}
-use Rattle.dav_deeds.specs.Legal.{deed_of, body_unless, new_body}
+use Rattle.dav_deeds.specs.Effects.{record_of, told_of}
+use Rattle.dav_deeds.specs.Legal.{IsDeed, bytes_in, deed_of, new_body}
 use Rattle.dav_deeds.specs.Made.{row_of}
-use Rattle.dav_deeds.specs.Refusals.{store_refusal, refusal_of}
-use Rattle.dav_deeds.specs.declared.answer.Flight.{Flight}
-use Rattle.dav_deeds.specs.declared.answer.Told.{Told}
-use Rattle.dav_deeds.specs.declared.answer.Told.TheVariants.{Idle, Stopping}
+use Rattle.dav_deeds.specs.declared.answer.Told.TheVariants.{Idle}
 use Rattle.dav_deeds.specs.declared.ask.Ask.{Ask}
-use Rattle.dav_deeds.specs.declared.ask.Ask.TheVariants as asks
-use Rattle.dav_deeds.specs.declared.ask.Done.{Done}
 use Rattle.dav_deeds.specs.declared.deed.Deed.{Deed}
-use Rattle.dav_deeds.specs.declared.deed.Deed.TheVariants.{Store, Forget, Settle}
-use Rattle.dav_deeds.specs.declared.fault.DeskFault.{DeskFault}
+use Rattle.dav_deeds.proofs.AllRows.{idle_is, new_recorded}
 use Rattle.dav_recorder.specs.Files.{ChangesOnly, AreEmpty, IsStored}
 use Rattle.dav_recorder.specs.Stands.{IsFile, IsWritten}
 use Rattle.dav_recorder.proofs.Filing.{changes_wider, changes_behind}
 use Rattle.dav_desk.specs.Changed.{fresh_by, freed_by}
-use Rattle.dav_desk.specs.Entry.{bytes_in, file_in}
+use Rattle.dav_desk.specs.Entry.{file_in}
 use Rattle.dav_desk.proofs.Entering.{text_wide}
 
 -- what finds nothing to take frees no file and has no body
-store_idle : (t : DeskTable) (now len : ℕ) (path : PathParts) (body : BodyId) (refused : Option DeskFault) → (effect_unless refused t now (Store path len (body_unless refused body))).told ≡ Some Idle → ⊥
-store_idle t now len path body (Some fault) is = cc is
-store_idle t now len path body None is = cc is
-
-forget_idle : (t : DeskTable) (now : ℕ) (path : PathParts) (locks below : Bool) (refused : Option DeskFault) → (effect_unless refused t now (Forget path locks below)).told ≡ Some Idle → ⊥
-forget_idle t now path locks below (Some fault) is = cc is
-forget_idle t now path locks below None is = cc is
-
-settle_idle : (t : DeskTable) (now : ℕ) (done : Done) (job : Option Flight) → (settle_effect t job now done).told ≡ Some Idle → ⊥
-settle_idle t now done None is = cc is
-settle_idle t now done (Some flight) is = cc is
-
-settled_idle : (t : DeskTable) (now number : ℕ) (done : Done) (refused : Option DeskFault) → (effect_unless refused t now (Settle number done)).told ≡ Some Idle → ⊥
-settled_idle t now number done (Some fault) is = cc is
-settled_idle t now number done None is = settle_idle t now done t.job is
-
-take_frees : (t : DeskTable) (job : Option Flight) → (take_effect t job).released ≡ []
-take_frees t None = refl
-take_frees t (Some flight) = refl
-
 pub idle_frees : (t : DeskTable) (now : ℕ) (ask : Ask) → told_of t now (deed_of t ask) ≡ Some Idle → (fresh_by t ask ≡ None) × (freed_by t now ask ≡ [])
-idle_frees t now (asks.Store path bytes) is = absurd (store_idle t now (length bytes) path (id_of t.index.next_file bytes) (store_refusal t.index path (length bytes)) is)
-idle_frees t now (asks.Forget path locks below) is = absurd (forget_idle t now path locks below (refusal_of t (Forget path locks below)) is)
-idle_frees t now asks.Take is = (refl, take_frees t (taken t now))
-idle_frees t now (asks.Settle job done) is = absurd (settled_idle t now job done (refusal_of t (Settle job done)) is)
-idle_frees t now asks.Stop is = let no : ◌≡◌ {A = Option Told} (Some Stopping) (Some Idle) = is in cc no
+idle_frees t now ask is =
+    let idle = idle_is t now (deed_of t ask) (ap kind_told is) in
+    (ap file_in idle.none, idle.frees)
 
 -- an ask that has a new body has a row
-store_row : (t : DeskTable) (now len : ℕ) (path : PathParts) (body : BodyId) (refused : Option DeskFault) (row : List ℕ) (f : ℕ) → row ≡ row_of (effect_unless refused t now (Store path len (body_unless refused body))).on_record
-    → IsFile (file_in (body_unless refused body)) f → row ≢ []
-store_row t now len path body (Some fault) row f is there = absurd there
-store_row t now len path body None row f is there = λ none. text_wide (records.Closed (bare path) body) (sym is ∙ none)
+pub stored_row : (t : DeskTable) (now : ℕ) (ask : Ask) (row : List ℕ) → IsDeed t (deed_of t ask) → row ≡ row_of (record_of t now (deed_of t ask)) → (f : ℕ) → IsFile (fresh_by t ask) f → row ≢ []
+stored_row t now ask row is_deed is f there = by (new_body (deed_of t ask)) refl there
+  where
+    some : (found : Option Record) → found ≢ None → row ≡ row_of found → row ≢ []
+    some None none at = absurd (none refl)
+    some (Some r) none at = λ empty. text_wide r (sym at ∙ empty)
 
-pub stored_row : (t : DeskTable) (now : ℕ) (ask : Ask) (row : List ℕ) → row ≡ row_of (record_of t now (deed_of t ask)) → (f : ℕ) → IsFile (fresh_by t ask) f → row ≢ []
-stored_row t now (asks.Store path bytes) row is f there = store_row t now (length bytes) path (id_of t.index.next_file bytes) (store_refusal t.index path (length bytes)) row f is there
-stored_row t now (asks.Forget path locks below) row is f there = absurd there
-stored_row t now asks.Take row is f there = absurd there
-stored_row t now (asks.Settle job done) row is f there = absurd there
-stored_row t now asks.Stop row is f there = absurd there
+    by : (new : Option BodyId) → new_body (deed_of t ask) ≡ new → IsFile (file_in new) f → row ≢ []
+    by None at out = absurd out
+    by (Some id) at in_file = some (record_of t now (deed_of t ask)) (new_recorded t now (deed_of t ask) id is_deed at) is
 
 pub on_ok_any : {T E : Type 0} {P : Type 0} (r : Result T E) → P → OnOk r P
 on_ok_any (Ok v) p = p
@@ -79,7 +49,7 @@ pub empty_nothing : (freed : List ℕ) (seen : ℕ → List ℕ) (doubts : ℕ �
 empty_nothing freed seen doubts none = subst (λ (l : List ℕ). AreEmpty l seen doubts) (sym none) (λ i d lt. absurd (omega (arith, lt)))
 
 -- what a planned step puts on the disk is what the ask does
-module _ (t : DeskTable) (now : ℕ) (ask : Ask) (deed : Deed) (bytes freed : List ℕ) (deed_is : deed ≡ deed_of t ask) (freed_is : freed ≡ freed_by t now ask) where
+module _ (t : DeskTable) (now : ℕ) (ask : Ask) (deed : Deed) (bytes freed : List ℕ) (deed_is : deed ≡ deed_of t ask) (is_deed : IsDeed t (deed_of t ask)) (freed_is : freed ≡ freed_by t now ask) where
   pub stored_asked : (row : List ℕ) (seen : ℕ → List ℕ) (doubts : ℕ → Doubt) → bytes ≡ bytes_in ask → row ≡ row_of (record_of t now (deed_of t ask)) → (row ≢ [] → IsStored (file_in (new_body deed)) bytes freed seen doubts)
       → IsStored (fresh_by t ask) (bytes_in ask) (freed_by t now ask) seen doubts
   stored_asked row seen doubts bytes_is row_is stored f there =
@@ -87,7 +57,7 @@ module _ (t : DeskTable) (now : ℕ) (ask : Ask) (deed : Deed) (bytes freed : Li
       subst (λ (d : Deed). row ≢ [] → IsStored (file_in (new_body d)) (bytes_in ask) (freed_by t now ask) seen doubts) deed_is
       (subst (λ (l : List ℕ). row ≢ [] → IsStored (file_in (new_body deed)) l (freed_by t now ask) seen doubts) bytes_is
       (subst (λ (l : List ℕ). row ≢ [] → IsStored (file_in (new_body deed)) bytes l seen doubts) freed_is stored)) in
-      same (stored_row t now ask row row_is f there) f there
+      same (stored_row t now ask row is_deed row_is f there) f there
 
   pub empty_asked : (seen : ℕ → List ℕ) (doubts : ℕ → Doubt) → AreEmpty freed seen doubts → AreEmpty (freed_by t now ask) seen doubts
   empty_asked seen doubts is = subst (λ (l : List ℕ). AreEmpty l seen doubts) freed_is is

@@ -13,28 +13,23 @@ use Rattle.dav_index.specs.declared.record.Record.TheVariants as records
 use Rattle.dav_index.proofs.LawLemmas.{text_fits}
 use Rattle.dav_deeds.specs.DeskTable.{DeskTable, reopened}
 use Rattle.dav_deeds.specs.Effects.{record_of, released_of, effect_of}
-use Rattle.dav_deeds.specs.Legal.{IsLegal, IsDeed, IsBodyUnless, Legal, deed_of, body_unless, new_body, table_after}
+use Rattle.dav_deeds.specs.Legal.{IsLegal, IsDeed, Legal, bytes_in, deed_of, new_body, table_after}
 use Rattle.dav_deeds.specs.Made.{row_of}
 use Rattle.dav_deeds.specs.Change.{IsPlannedBy}
-use Rattle.dav_deeds.specs.Refusals.{store_refusal}
 use Rattle.dav_deeds.specs.Sound.{IsSound}
 use Rattle.dav_deeds.specs.declared.ask.Ask.{Ask}
-use Rattle.dav_deeds.specs.declared.ask.Ask.TheVariants as asks
 use Rattle.dav_deeds.specs.declared.ask.Who.{Who}
 use Rattle.dav_deeds.specs.declared.deed.Deed.{Deed}
-use Rattle.dav_deeds.specs.declared.deed.Deed.TheVariants.{Store, Forget, Take, Settle, Stop}
 use Rattle.dav_deeds.specs.declared.deed.Step.{Step}
 use Rattle.dav_deeds.specs.declared.deed.Trace.{Trace}
-use Rattle.dav_deeds.specs.declared.fault.DeskFault.{DeskFault}
 use Rattle.dav_deeds.specs.declared.plan.Planned.{Planned}
-use Rattle.dav_deeds.proofs.Released.{released_begin}
-use Rattle.dav_deeds.proofs.Sounds.{is_record}
+use Rattle.dav_deeds.proofs.AllRows.{body_made, is_record, released_begin}
 use Rattle.dav_recorder.specs.Planned.{HasNew, IsPlanned, IsQuiet}
 use Rattle.dav_recorder.specs.Recovers.{IsConsistent}
 use Rattle.dav_recorder.specs.Survives.{SurviveAll, IsLive, IsLeft, with_under}
 use Rattle.dav_recorder.specs.declared.recorder.Recorder.{Recorder}
 use Rattle.dav_recorder.proofs.PlanLemmas.{step_planned, step_quiet}
-use Rattle.dav_desk.specs.Entry.{bytes_in, file_in, IsEntry}
+use Rattle.dav_desk.specs.Entry.{file_in, IsEntry}
 use Rattle.dav_desk.specs.Working.{AreGiven}
 use Rattle.dav_desk.proofs.Telling.{not_idle}
 
@@ -58,20 +53,6 @@ row_fits t now deed row sound is row_is some =
     let long : 0 < length row = not_empty row some in
     (long, omega (arith, short, ap (λ (l : List ℕ). length l) found.2))
 
-unless_begins : (refused : Option DeskFault) (file len : ℕ) (body : BodyId) → IsBodyUnless refused file len (Some body) → body.file ≡ file
-unless_begins None file len body is = is.0
-unless_begins (Some fault) file len body is = absurd is
-
--- a new body is in a file of bodies
-pub new_begins : (t : DeskTable) (deed : Deed) (id : BodyId) → IsSound t → IsDeed t deed → new_body deed ≡ Some id → 2 ≤ id.file
-new_begins t (Store path len body) id sound is new =
-    let at : id.file ≡ t.index.next_file = unless_begins (store_refusal t.index path len) t.index.next_file len id (subst (λ (o : Option BodyId). IsBodyUnless (store_refusal t.index path len) t.index.next_file len o) new is.1) in
-    omega (arith, at, sound.index.numbers_begin, sound.index.room_for_lost)
-new_begins t (Forget path locks below) id sound is new = cc new
-new_begins t Take id sound is new = cc new
-new_begins t (Settle job done) id sound is new = cc new
-new_begins t Stop id sound is new = cc new
-
 -- whether a row is empty
 pub row_empty : (row : List ℕ) (b : Bool) → b ≡ nat_eq (length row) 0 → b ≡ true → row ≡ []
 row_empty [] b test is = refl
@@ -80,7 +61,7 @@ row_empty (x ∷ xs) b test is = let none : length (x ∷ xs) ≡ 0 = eqb-true (
 pub row_full : (row : List ℕ) (b : Bool) → b ≡ nat_eq (length row) 0 → b ≡ false → row ≢ []
 row_full row b test off = λ is. absurd (false≢true (sym off ∙ test ∙ ap (λ (l : List ℕ). nat_eq (length l) 0) is))
 
--- so is each file that is freed
+-- each file that is freed is one of bodies
 pub freed_begin : (t : DeskTable) (now : ℕ) (deed : Deed) (freed : List ℕ) → IsSound t → freed ≡ released_of t now deed → All (λ f. 2 ≤ f) freed
 freed_begin t now deed freed sound is =
     subst (λ (l : List ℕ). All (λ f. 2 ≤ f) l) (sym is) (λ i d lt. released_begin t sound now deed (get_or (released_of t now deed) i d) (All-contains_itself (released_of t now deed) i d lt))
@@ -106,17 +87,15 @@ entry_quiet t s given bytes row freed is none =
     subst (λ (l : List ℕ). IsQuiet t s l) (sym is.freed_is)
     (step_quiet t s is.sound is.legal (row_none (record_of t s.now s.deed) row is.row_is none (λ r at. text_wide r)))
 
--- a planned step is an entry where the bytes of a store are given
-new_given : (refused : Option DeskFault) (given : ℕ → List ℕ) (file : ℕ) (bytes : List ℕ) → (refused ≡ None → given file ≡ bytes) → HasNew (body_unless refused (id_of file bytes)) given (file_in (body_unless refused (id_of file bytes))) bytes
-new_given None given file bytes has = (refl, refl, has refl)
-new_given (Some fault) given file bytes has = refl
-
+-- a planned step is an entry where the bytes of the ask are given for its new body
 asked_new : (t : DeskTable) (ask : Ask) (given : ℕ → List ℕ) → AreGiven t given ask → HasNew (new_body (deed_of t ask)) given (file_in (new_body (deed_of t ask))) (bytes_in ask)
-asked_new t (asks.Store path bytes) given has = new_given (store_refusal t.index path (length bytes)) given t.index.next_file bytes has
-asked_new t (asks.Forget path locks below) given has = refl
-asked_new t asks.Take given has = refl
-asked_new t (asks.Settle job done) given has = refl
-asked_new t asks.Stop given has = refl
+asked_new t ask given has = by (new_body (deed_of t ask)) refl
+  where
+    by : (new : Option BodyId) → new_body (deed_of t ask) ≡ new → HasNew new given (file_in new) (bytes_in ask)
+    by None is = refl
+    by (Some id) is =
+        let made : id ≡ id_of t.index.next_file (bytes_in ask) = body_made t ask id is in
+        (refl, subst (λ (b : BodyId). b ≡ id_of b.file (bytes_in ask)) (sym made) refl, has id is)
 
 pub planned_legal : (t : DeskTable) (who : Who) (now : ℕ) (ask : Ask) (planned : Planned) (row : List ℕ) → IsPlannedBy t who now (deed_of t ask) (effect_of t now (deed_of t ask)) planned row → IsLegal t planned.made.step
 planned_legal t who now ask planned row is =

@@ -1,23 +1,24 @@
 -- How a desk goes on, or ends.
 use Rattle.std.proofs.Common.{◌≡◌, ℕ, List, [], ◌∷◌, ◌++◌, Option, Some, None, Result, refl, sym, ◌∙◌, ap, subst}
-use Rattle.std.specs.Prelude.{IfOk}
+use Rattle.std.specs.Prelude.{◌≢◌, IfOk, IfErr}
 use Rattle.sha2.specs.Sha256.{sha256}
 use Rattle.dav_disk.specs.Disk.{Doubt}
 use Rattle.dav_store.specs.Rows.{IsReady}
 use Rattle.dav_store.specs.View.{journal_end}
-use Rattle.dav_deeds.specs.Answers.{answer_of}
+use Rattle.dav_store.specs.declared.body_id.BodyId.{BodyId}
+use Rattle.dav_deeds.specs.Answers.{Tells, Ends, answer_of, kind_told, wanted}
 use Rattle.dav_deeds.specs.DeskTable.{DeskTable}
 use Rattle.dav_deeds.specs.Effects.{after}
 use Rattle.dav_deeds.specs.Legal.{table_after}
 use Rattle.dav_deeds.specs.Made.{answer_by}
 use Rattle.dav_deeds.specs.declared.answer.Answer.{Answer}
-use Rattle.dav_deeds.specs.declared.answer.Flight.{Flight}
 use Rattle.dav_deeds.specs.declared.answer.Told.{Told}
-use Rattle.dav_deeds.specs.declared.answer.Told.TheVariants.{Closed, Forgot, Took, Idle, Settled, Stopping}
 use Rattle.dav_deeds.specs.declared.deed.Mark.{Mark}
 use Rattle.dav_deeds.specs.declared.deed.Mark.TheVariants as marks
 use Rattle.dav_deeds.specs.declared.deed.Step.{Step}
 use Rattle.dav_deeds.specs.declared.fault.DeskFault.{DeskFault}
+use Rattle.dav_deeds.specs.declared.fault.DeskFault.TheVariants.{Memory}
+use Rattle.dav_deeds.proofs.Rows.{wanted_told}
 use Rattle.dav_deeds.proofs.Taking.{table_push}
 use Rattle.dav_recorder.specs.Survives.{IsLive}
 use Rattle.dav_recorder.specs.declared.recorder.Recorder.{Recorder}
@@ -87,18 +88,14 @@ pub answer_has : (P : Answer → Type 0) (mark : Mark) (told : Option Told) (byt
 answer_has P mark told bytes answer result made is each =
     subst (λ (r : Result Answer DeskFault). IfOk r P) (sym (made ∙ ap (λ (r : Result Told DeskFault). with_bytes r bytes) is)) (told_has P mark told bytes each)
 
-pub job_bytes : (given : ℕ → List ℕ) (bytes : List ℕ) (t : Told) → ((flight : Flight) → t ≡ Took flight → bytes ≡ given flight.body.file) → HasBytes given (answer_of t bytes)
-job_bytes given bytes (Closed body) of = tt
-job_bytes given bytes Forgot of = tt
-job_bytes given bytes (Took flight) of = of flight refl
-job_bytes given bytes Idle of = tt
-job_bytes given bytes (Settled fated) of = tt
-job_bytes given bytes Stopping of = tt
+-- the answer has the bytes of the body that it names
+pub body_bytes : (given : ℕ → List ℕ) (bytes : List ℕ) (told : Option Told) (t : Told) → told ≡ Some t → ((body : BodyId) → wanted told ≡ Some body → bytes ≡ given body.file) → HasBytes given told (answer_of t bytes)
+body_bytes given bytes told t at of body is = wanted_told t bytes body (ap wanted (sym at) ∙ is) ∙ of body is
 
-pub job_sum : (bytes : List ℕ) (t : Told) → ((flight : Flight) → t ≡ Took flight → sha256 bytes ≡ flight.body.sum) → HasSum (answer_of t bytes)
-job_sum bytes (Closed body) of = tt
-job_sum bytes Forgot of = tt
-job_sum bytes (Took flight) of = of flight refl
-job_sum bytes Idle of = tt
-job_sum bytes (Settled fated) of = tt
-job_sum bytes Stopping of = tt
+pub body_sum : (bytes : List ℕ) (told : Option Told) (t : Told) → told ≡ Some t → ((body : BodyId) → wanted told ≡ Some body → sha256 bytes ≡ body.sum) → HasSum told (answer_of t bytes)
+body_sum bytes told t at of body is = ap sha256 (wanted_told t bytes body (ap wanted (sym at) ∙ is)) ∙ of body is
+
+-- the end of a job is no fault
+pub end_answers : (mark : Mark) (told : Option Told) (bytes : List ℕ) → kind_told told ≡ Ends → IfErr (with_bytes (answer_by mark told) bytes) (λ fault. fault ≢ Memory)
+end_answers mark (Some t) bytes is = tt
+end_answers mark None bytes is = cc is

@@ -9,9 +9,8 @@ use Rattle.dav_deeds.specs.Effects.{after, released_of}
 use Rattle.dav_deeds.specs.Legal.{IsDeed, new_body}
 use Rattle.dav_deeds.specs.Sound.{IsSound}
 use Rattle.dav_deeds.specs.declared.deed.Deed.{Deed}
-use Rattle.dav_deeds.proofs.Released.{spared}
+use Rattle.dav_deeds.proofs.AllRows.{new_file, spared}
 use Rattle.dav_recorder.specs.Stands.{IsFile, IsWritten}
-use Rattle.dav_recorder.proofs.PlanLemmas.{new_file}
 use Rattle.dav_desk.specs.Entry.{file_in}
 
 next_of : (t : DeskTable) (deed : Deed) (f : ℕ) → IsDeed t deed → (new : Option BodyId) → new_body deed ≡ new → IsFile (file_in new) f → f ≡ t.index.next_file

@@ -1,22 +1,21 @@
 -- The room that a desk has for the end of its job in flight.
-use Rattle.std.proofs.Common.{◌≡◌, true, ℕ, ◌+◌, ◌<◌, ◌≤◌, List, ◌∷◌, [], ◌++◌, length, Option, Some, None, refl, sym, ◌∙◌, ap, subst, arith, length-append}
+use Rattle.std.proofs.Common.{◌≡◌, Bool, true, false, if◌then◌else◌, ℕ, ◌+◌, ◌<◌, ◌≤◌, List, ◌∷◌, [], ◌++◌, length, Option, Some, None, refl, sym, ◌∙◌, ap, subst, arith, length-append}
 use Rattle.std.specs.Vec.{vec_capacity}
+use Rattle.dav_deeds.specs.Answers.{Kind, Tells, Gives, Idles, Ends, kind_told, is_end, job_by}
 use Rattle.dav_deeds.specs.DeskTable.{DeskTable}
 use Rattle.dav_deeds.specs.Effects.{after, told_of}
 use Rattle.dav_deeds.specs.Legal.{deed_of}
 use Rattle.dav_deeds.specs.Spare.{HasSpare, HasSpareOf, ends_job}
 use Rattle.dav_deeds.specs.declared.ask.Ask.{Ask}
 use Rattle.dav_deeds.specs.declared.spare.Spare.{Spare}
-use Rattle.dav_deeds.specs.declared.answer.Fated.{Fated}
 use Rattle.dav_deeds.specs.declared.answer.Flight.{Flight}
 use Rattle.dav_deeds.specs.declared.answer.Told.{Told}
-use Rattle.dav_deeds.specs.declared.answer.Told.TheVariants.{Closed, Forgot, Took, Idle, Settled, Stopping}
 use Rattle.dav_deeds.specs.declared.deed.Deed.{Deed}
 use Rattle.dav_deeds.specs.declared.deed.Step.{Step}
-use Rattle.dav_deeds.proofs.Sparing.{settled_frees, end_flies, end_told}
+use Rattle.dav_deeds.proofs.AllRows.{end_flies, end_told, job_after}
 use Rattle.dav_recorder.specs.declared.recorder.Recorder.{Recorder}
 use Rattle.dav_desk.specs.declared.desk.Desk.{Desk}
-use Rattle.dav_desk.specs.Room.{slots, HasSlotOf, HasRoom, IsHeldFor}
+use Rattle.dav_desk.specs.Room.{slots, HasSlotOf, HasRoom, IsHeldBy, IsHeldFor}
 
 -- as many steps, and no less room
 slot_like : (job : Option Flight) (count count' room room' : ℕ) → count' ≡ count → room ≤ room' → HasSlotOf job count room → HasSlotOf job count' room'
@@ -36,69 +35,65 @@ module _ {D : Type 0} where
   }
 
   -- before a step that isn't the end of a job there is all that the end needs
-  pub held_room : (desk : Desk D) (told : Option Told) → ((fated : Fated) → told ≡ Some (Settled fated) → ⊥) → IsHeldFor told desk → HasRoom desk
-  held_room desk None other is = is
-  held_room desk (Some (Closed body)) other is = is
-  held_room desk (Some Forgot) other is = is
-  held_room desk (Some (Took flight)) other is = is
-  held_room desk (Some Idle) other is = is
-  held_room desk (Some (Settled fated)) other is = absurd (other fated refl)
-  held_room desk (Some Stopping) other is = is
+  pub held_room : (desk : Desk D) (told : Option Told) → (kind_told told ≡ Ends → ⊥) → IsHeldFor told desk → HasRoom desk
+  held_room desk told other held = by (kind_told told) refl held
+    where
+      by : (k : Kind) → kind_told told ≡ k → IsHeldBy (is_end k) desk → HasRoom desk
+      by Tells is h = h
+      by (Gives flight) is h = h
+      by Idles is h = h
+      by Ends is h = absurd (other is)
 
-  pub room_held : (desk : Desk D) (told : Option Told) → ((fated : Fated) → told ≡ Some (Settled fated) → ⊥) → HasRoom desk → IsHeldFor told desk
-  room_held desk None other is = is
-  room_held desk (Some (Closed body)) other is = is
-  room_held desk (Some Forgot) other is = is
-  room_held desk (Some (Took flight)) other is = is
-  room_held desk (Some Idle) other is = is
-  room_held desk (Some (Settled fated)) other is = absurd (other fated refl)
-  room_held desk (Some Stopping) other is = is
+  pub room_held : (desk : Desk D) (told : Option Told) → (kind_told told ≡ Ends → ⊥) → HasRoom desk → IsHeldFor told desk
+  room_held desk told other room = by (kind_told told) refl
+    where
+      by : (k : Kind) → kind_told told ≡ k → IsHeldBy (is_end k) desk
+      by Tells is = room
+      by (Gives flight) is = room
+      by Idles is = room
+      by Ends is = absurd (other is)
 
   -- the memory for the end of the job is in use then
-  pub end_held : (desk : Desk D) (o : Option Spare) (ask : Ask) (told : Option Told) (fated : Fated) → ends_job desk.table.job ask ≡ true → told ≡ Some (Settled fated) → HasRoom desk → IsHeldFor told (record desk { spare = o })
-  end_held desk o ask told fated ends same is =
+  pub end_held : (desk : Desk D) (o : Option Spare) (ask : Ask) (told : Option Told) → ends_job desk.table.job ask ≡ true → kind_told told ≡ Ends → HasRoom desk → IsHeldFor told (record desk { spare = o })
+  end_held desk o ask told ends same is =
       let flies = end_flies desk.table.job ask ends in
       let room : length desk.recorder.trace.steps.items < vec_capacity desk.recorder.trace.steps =
       subst (λ (job : Option Flight). HasSlotOf job (length desk.recorder.trace.steps.items) (vec_capacity desk.recorder.trace.steps)) flies.1 is.slot in
-      subst (λ (x : Option Told). IsHeldFor x (record desk { spare = o })) (sym same) room
+      subst (λ (k : Kind). IsHeldBy (is_end k) (record desk { spare = o })) (sym same) room
 
   -- and before such an end there is room for it
-  pub held_slot : (desk : Desk D) (told : Option Told) (fated : Fated) → told ≡ Some (Settled fated) → IsHeldFor told desk → length desk.recorder.trace.steps.items + slots told ≤ vec_capacity desk.recorder.trace.steps
-  held_slot desk told fated same is =
-      let room : length desk.recorder.trace.steps.items < vec_capacity desk.recorder.trace.steps = subst (λ (o : Option Told). IsHeldFor o desk) same is in
-      subst (λ (o : Option Told). length desk.recorder.trace.steps.items + slots o ≤ vec_capacity desk.recorder.trace.steps) (sym same) (omega (arith, room))
+  pub held_slot : (desk : Desk D) (told : Option Told) → kind_told told ≡ Ends → IsHeldFor told desk → length desk.recorder.trace.steps.items + slots told ≤ vec_capacity desk.recorder.trace.steps
+  held_slot desk told same is =
+      let room : length desk.recorder.trace.steps.items < vec_capacity desk.recorder.trace.steps = subst (λ (k : Kind). IsHeldBy (is_end k) desk) same is in
+      subst (λ (k : Kind). length desk.recorder.trace.steps.items + (if is_end k then 1 else 2) ≤ vec_capacity desk.recorder.trace.steps) (sym same) (omega (arith, room))
 
 -- before each step there is room for it
 pub one_slot : (told : Option Told) → 1 ≤ slots told
-one_slot None = omega arith
-one_slot (Some (Closed body)) = omega arith
-one_slot (Some Forgot) = omega arith
-one_slot (Some (Took flight)) = omega arith
-one_slot (Some Idle) = omega arith
-one_slot (Some (Settled fated)) = omega arith
-one_slot (Some Stopping) = omega arith
+one_slot told = by (is_end (kind_told told))
+  where
+    by : (b : Bool) → 1 ≤ (if b then 1 else 2)
+    by true = omega arith
+    by false = omega arith
 
 -- after a step there is room for the end of the job in flight
-module _ (t : DeskTable) (now : ℕ) (deed : Deed) (count room : ℕ) where
-  abbrev Leaves : Option Told → Type 0
-  Leaves told = told_of t now deed ≡ told → count + slots told ≤ room → HasSlotOf (after t now deed).job (count + 1) room
+leaves : (t : DeskTable) (now : ℕ) (deed : Deed) (count room : ℕ) → count + slots (told_of t now deed) ≤ room → HasSlotOf (after t now deed).job (count + 1) room
+leaves t now deed count room two = by (kind_told (told_of t now deed)) refl two
+  where
+    some : count + 2 ≤ room → HasSlotOf (after t now deed).job (count + 1) room
+    some more = slot_free (after t now deed).job (count + 1) room (omega (arith, more))
 
-  leaves : (told : Option Told) → Leaves told
-  leaves None same two = slot_free (after t now deed).job (count + 1) room (omega (arith, two))
-  leaves (Some (Closed body)) same two = slot_free (after t now deed).job (count + 1) room (omega (arith, two))
-  leaves (Some Forgot) same two = slot_free (after t now deed).job (count + 1) room (omega (arith, two))
-  leaves (Some (Took flight)) same two = slot_free (after t now deed).job (count + 1) room (omega (arith, two))
-  leaves (Some Idle) same two = slot_free (after t now deed).job (count + 1) room (omega (arith, two))
-  leaves (Some (Settled fated)) same two = subst (λ (job : Option Flight). HasSlotOf job (count + 1) room) (sym (settled_frees t now deed fated same)) tt
-  leaves (Some Stopping) same two = slot_free (after t now deed).job (count + 1) room (omega (arith, two))
+    by : (k : Kind) → kind_told (told_of t now deed) ≡ k → count + (if is_end k then 1 else 2) ≤ room → HasSlotOf (after t now deed).job (count + 1) room
+    by Tells is more = some more
+    by (Gives flight) is more = some more
+    by Idles is more = some more
+    by Ends is more = subst (λ (job : Option Flight). HasSlotOf job (count + 1) room) (sym (job_after t now deed ∙ ap (job_by t.job) is)) tt
 
 pub slot_after : (t : DeskTable) (now : ℕ) (deed : Deed) (before steps : List Step) (s : Step) (room room' : ℕ) → steps ≡ before ++ s ∷ [] → length before + slots (told_of t now deed) ≤ room → room ≤ room' → HasSlotOf (after t now deed).job (length steps) room'
 slot_after t now deed before steps s room room' grown two more =
     let count : length steps ≡ length before + 1 = ap length grown ∙ length-append before (s ∷ []) in
-    slot_like (after t now deed).job (length before + 1) (length steps) room room' count more (leaves t now deed (length before) room (told_of t now deed) refl two)
+    slot_like (after t now deed).job (length before + 1) (length steps) room room' count more (leaves t now deed (length before) room two)
 
 -- no job is in flight after its end
 pub end_frees : (t : DeskTable) (now : ℕ) (ask : Ask) (o : Option Spare) → ends_job t.job ask ≡ true → HasSpare (after t now (deed_of t ask)) o
 end_frees t now ask o ends =
-    let told = end_told t now ask ends in
-    subst (λ (job : Option Flight). HasSpareOf (after t now (deed_of t ask)).index job o) (sym (settled_frees t now (deed_of t ask) told.0 told.1)) tt
+    subst (λ (job : Option Flight). HasSpareOf (after t now (deed_of t ask)).index job o) (sym (job_after t now (deed_of t ask) ∙ ap (job_by t.job) (end_told t now ask ends))) tt

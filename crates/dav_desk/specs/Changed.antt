@@ -3,11 +3,11 @@ use Rattle.std.specs.Prelude.{ℕ, List, Option}
 use Rattle.dav_disk.specs.Disk.{Doubt}
 use Rattle.dav_deeds.specs.DeskTable.{DeskTable}
 use Rattle.dav_deeds.specs.Effects.{released_of}
-use Rattle.dav_deeds.specs.Legal.{deed_of, new_body}
+use Rattle.dav_deeds.specs.Legal.{bytes_in, deed_of, new_body}
 use Rattle.dav_deeds.specs.declared.ask.Ask.{Ask}
 use Rattle.dav_recorder.specs.Files.{ChangesOnly, AreEmpty, IsStored}
 use Rattle.dav_recorder.specs.Stands.{IsWritten}
-use Rattle.dav_desk.specs.Entry.{bytes_in, file_in}
+use Rattle.dav_desk.specs.Entry.{file_in}
 use Rattle.dav_desk.specs.declared.desk.Desk.{Desk}
 
 -- the file of the ask's new body, if it has one

@@ -2,12 +2,12 @@
 use Rattle.std.specs.Prelude.{◌≡◌, ◌⊎◌, ℕ, List, [], ◌++◌, Some, None, Result}
 use Rattle.dav_machine.specs.Log.{Rose}
 use Rattle.dav_disk.specs.Disk.{AllStay}
+use Rattle.dav_store.specs.declared.body_id.BodyId.{BodyId}
+use Rattle.dav_deeds.specs.Answers.{wanted}
 use Rattle.dav_deeds.specs.DeskTable.{DeskTable}
 use Rattle.dav_deeds.specs.Effects.{told_of}
 use Rattle.dav_deeds.specs.Legal.{deed_of}
 use Rattle.dav_deeds.specs.declared.answer.Answer.{Answer}
-use Rattle.dav_deeds.specs.declared.answer.Flight.{Flight}
-use Rattle.dav_deeds.specs.declared.answer.Told.TheVariants.{Took}
 use Rattle.dav_deeds.specs.declared.ask.Ask.{Ask}
 use Rattle.dav_deeds.specs.declared.ask.Who.{Who}
 use Rattle.dav_deeds.specs.declared.fault.DeskFault.{DeskFault}
@@ -17,11 +17,11 @@ use Rattle.dav_desk.specs.declared.desk.Desk.{Desk}
 use Rattle.dav_desk.specs.Ends.{IsEnd}
 use Rattle.dav_desk.specs.Verdict.{Verdict, Went, Stopped, Starved, step_of, steps_by, table_by, result_by}
 
--- the bytes of the job that was to be told could not be read, or are not those that were kept; no file changed
+-- the bytes of the body that was to be told could not be read, or are not those that were kept; no file changed
 pub record IsUnread (honest : Type 0) (seen seen_now : ℕ → List ℕ) (before now_faults : ℕ) (t : DeskTable) (now : ℕ) (ask : Ask) (fault : DeskFault) : Type 0 where
-  pub flight : Flight
-  pub told : told_of t now (deed_of t ask) ≡ Some (Took flight)
-  pub cause : IsFetchFault honest flight.body (seen flight.body.file) before now_faults fault
+  pub body : BodyId
+  pub told : wanted (told_of t now (deed_of t ask)) ≡ Some body
+  pub cause : IsFetchFault honest body (seen body.file) before now_faults fault
   pub files : honest → AllStay seen seen_now
 
 -- the desk was dead already, and is as it was
@@ -29,7 +29,7 @@ pub record WasDead {D : Type 0} (fault : DeskFault) (old new : Desk D) : Type 0 
   pub dead : old.recorder.dead ≡ Some fault
   pub same : new ≡ old
 
--- The desk died in this call: the disk failed in it, or the bytes of a job are not to be had. The step is the one under way where
+-- The desk died in this call: the disk failed in it, or the bytes of a body that was to be told are not to be had. The step is the one under way where
 -- its record was begun.
 pub record HasDied {D : Type 0} (honest : D → Type 0) (moment : D → ℕ) (seen : D → ℕ → List ℕ) (faults : D → ℕ) (who : Who) (now : ℕ) (ask : Ask) (fault : DeskFault) (old new : Desk D) : Type 0 where
   pub alive : old.recorder.dead ≡ None

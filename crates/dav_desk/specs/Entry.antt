@@ -1,29 +1,18 @@
 -- What is put on the disk of a step.
-use Rattle.std.specs.Prelude.{◌≡◌, ℕ, List, [], Option, Some, None}
+use Rattle.std.specs.Prelude.{◌≡◌, ℕ, List, Option, Some, None}
 use Rattle.dav_disk.specs.Disk.{AllStay}
 use Rattle.dav_store.specs.declared.body_id.BodyId.{BodyId}
+use Rattle.dav_deeds.specs.Answers.{wanted}
 use Rattle.dav_deeds.specs.DeskTable.{DeskTable}
 use Rattle.dav_deeds.specs.Effects.{record_of, released_of}
 use Rattle.dav_deeds.specs.Legal.{IsLegal, new_body}
 use Rattle.dav_deeds.specs.Made.{row_of}
 use Rattle.dav_deeds.specs.Sound.{IsSound}
-use Rattle.dav_deeds.specs.declared.answer.Flight.{Flight}
 use Rattle.dav_deeds.specs.declared.answer.Told.{Told}
-use Rattle.dav_deeds.specs.declared.answer.Told.TheVariants.{Took}
-use Rattle.dav_deeds.specs.declared.ask.Ask.{Ask}
-use Rattle.dav_deeds.specs.declared.ask.Ask.TheVariants.{Store, Forget, Take, Settle, Stop}
 use Rattle.dav_deeds.specs.declared.deed.Step.{Step}
 use Rattle.dav_deeds.specs.declared.fault.DeskFault.{DeskFault}
 use Rattle.dav_recorder.specs.Opening.{IsFetchFault}
 use Rattle.dav_recorder.specs.Planned.{HasNew}
-
--- the bytes that are to be stored, if any are
-abbrev pub bytes_in : Ask → List ℕ
-bytes_in (Store path bytes) = bytes
-bytes_in (Forget path locks below) = []
-bytes_in Take = []
-bytes_in (Settle job done) = []
-bytes_in Stop = []
 
 -- the file of the body, if there is one
 abbrev pub file_in : Option BodyId → Option ℕ
@@ -38,9 +27,9 @@ pub record IsEntry (t : DeskTable) (s : Step) (given : ℕ → List ℕ) (bytes 
   pub row_is : row ≡ row_of (record_of t s.now s.deed)
   pub freed_is : freed ≡ released_of t s.now s.deed
 
--- the bytes of the job that is told, if one is, are not to be had
+-- the bytes of the body that is told are not to be had
 pub record IsMissing (honest : Type 0) (seen seen_now : ℕ → List ℕ) (before after : ℕ) (told : Option Told) (fault : DeskFault) : Type 0 where
-  pub flight : Flight
-  pub is_told : told ≡ Some (Took flight)
-  pub cause : IsFetchFault honest flight.body (seen flight.body.file) before after fault
+  pub body : BodyId
+  pub is_wanted : wanted told ≡ Some body
+  pub cause : IsFetchFault honest body (seen body.file) before after fault
   pub files : honest → AllStay seen seen_now

@@ -1,13 +1,12 @@
 -- What a call of a desk comes to, by how it went: its steps, the table after it and its answer.
-use Rattle.std.specs.Prelude.{ℕ, List, [], ◌∷◌, Option, Some, None, Result, Ok, Err}
+use Rattle.std.specs.Prelude.{ℕ, List, [], ◌∷◌, Option, Some, None, Result, Ok, Err, if◌then◌else◌}
 use Rattle.dav_deeds.specs.DeskTable.{DeskTable}
-use Rattle.dav_deeds.specs.Answers.{answer_of}
+use Rattle.dav_deeds.specs.Answers.{answer_of, kind_told, is_idle}
 use Rattle.dav_deeds.specs.Effects.{after, mark_of, told_of}
 use Rattle.dav_deeds.specs.Legal.{deed_of}
 use Rattle.dav_deeds.specs.Made.{answer_by}
 use Rattle.dav_deeds.specs.declared.answer.Answer.{Answer}
 use Rattle.dav_deeds.specs.declared.answer.Told.{Told}
-use Rattle.dav_deeds.specs.declared.answer.Told.TheVariants.{Closed, Forgot, Took, Idle, Settled, Stopping}
 use Rattle.dav_deeds.specs.declared.ask.Ask.{Ask}
 use Rattle.dav_deeds.specs.declared.ask.Who.{Who}
 use Rattle.dav_deeds.specs.declared.deed.Step.{Step}
@@ -33,13 +32,7 @@ step_of t who now ask moment = record {
 
 -- this step alone, and none where it is a take that found nothing
 abbrev pub unless_idle : Option Told → Step → List Step
-unless_idle None s = s ∷ []
-unless_idle (Some (Closed body)) s = s ∷ []
-unless_idle (Some Forgot) s = s ∷ []
-unless_idle (Some (Took flight)) s = s ∷ []
-unless_idle (Some Idle) s = []
-unless_idle (Some (Settled fated)) s = s ∷ []
-unless_idle (Some Stopping) s = s ∷ []
+unless_idle told s = if is_idle (kind_told told) then [] else s ∷ []
 
 -- the steps by which the trace grows
 abbrev pub steps_by : Verdict → DeskTable → Who → ℕ → Ask → ℕ → List Step
@@ -58,7 +51,7 @@ abbrev pub with_bytes : Result Told DeskFault → List ℕ → Result Answer Des
 with_bytes (Ok told) bytes = Ok (answer_of told bytes)
 with_bytes (Err fault) bytes = Err fault
 
--- the answer, these being the bytes of the job that is told, if one is
+-- the answer, these being the bytes of the body that is told, if one is
 abbrev pub result_by : Verdict → DeskTable → ℕ → Ask → List ℕ → Result Answer DeskFault
 result_by Went t now ask bytes = with_bytes (answer_by (mark_of t now (deed_of t ask)) (told_of t now (deed_of t ask))) bytes
 result_by (Stopped fault) t now ask bytes = Err fault

@@ -1,16 +1,16 @@
 -- A desk between two calls, over a disk that keeps the model.
-use Rattle.std.specs.Prelude.{◌≡◌, ℕ, List, length, None}
+use Rattle.std.specs.Prelude.{◌≡◌, ℕ, List, Option, Some, None}
 use Rattle.sha2.specs.Sha256.{sha256}
 use Rattle.dav_disk.specs.Disk.{Doubt}
 use Rattle.dav_store.specs.Rows.{IsReady}
 use Rattle.dav_store.specs.View.{journal_end}
 use Rattle.dav_deeds.specs.DeskTable.{DeskTable}
-use Rattle.dav_deeds.specs.Legal.{table_after}
-use Rattle.dav_deeds.specs.Refusals.{store_refusal}
+use Rattle.dav_deeds.specs.Answers.{bytes_told, wanted}
+use Rattle.dav_deeds.specs.Legal.{bytes_in, deed_of, new_body, table_after}
+use Rattle.dav_store.specs.declared.body_id.BodyId.{BodyId}
 use Rattle.dav_deeds.specs.declared.answer.Answer.{Answer}
-use Rattle.dav_deeds.specs.declared.answer.Answer.TheVariants as answers
+use Rattle.dav_deeds.specs.declared.answer.Told.{Told}
 use Rattle.dav_deeds.specs.declared.ask.Ask.{Ask}
-use Rattle.dav_deeds.specs.declared.ask.Ask.TheVariants.{Store, Forget, Take, Settle, Stop}
 use Rattle.dav_recorder.specs.Survives.{IsLive, IsLeft}
 use Rattle.dav_desk.specs.declared.desk.Desk.{Desk}
 use Rattle.dav_desk.specs.Ends.{IsEndIfAny}
@@ -35,28 +35,14 @@ pub record IsWorking {D : Type 0} (moment : D → ℕ) (seen : D → ℕ → Lis
 abbrev pub IsStopped : {D : Type 0} → (D → ℕ) → (D → ℕ → ℕ → Doubt) → List ℕ → DeskTable → ℕ → (ℕ → List ℕ) → Desk D → Type 0
 IsStopped moment past url opening start given desk = IsLeft moment past url opening start given desk.recorder
 
--- the bytes of a store that isn't refused are given for its new file
+-- the bytes of an ask are given for its new body, if it has one
 abbrev pub AreGiven : DeskTable → (ℕ → List ℕ) → Ask → Type 0
-AreGiven t given (Store path bytes) = store_refusal t.index path (length bytes) ≡ None → given t.index.next_file ≡ bytes
-AreGiven t given (Forget path locks below) = Unit {0}
-AreGiven t given Take = Unit {0}
-AreGiven t given (Settle job done) = Unit {0}
-AreGiven t given Stop = Unit {0}
+AreGiven t given ask = (id : BodyId) → new_body (deed_of t ask) ≡ Some id → given id.file ≡ bytes_in ask
 
--- the bytes of a job that is told are those given for its file
-abbrev pub HasBytes : (ℕ → List ℕ) → Answer → Type 0
-HasBytes given (answers.Closed body) = Unit {0}
-HasBytes given answers.Forgot = Unit {0}
-HasBytes given (answers.Took job) = job.bytes ≡ given job.body.file
-HasBytes given answers.Idle = Unit {0}
-HasBytes given (answers.Settled fated) = Unit {0}
-HasBytes given answers.Stopping = Unit {0}
+-- the bytes of a body that is told are those given for its file
+abbrev pub HasBytes : (ℕ → List ℕ) → Option Told → Answer → Type 0
+HasBytes given told answer = (body : BodyId) → wanted told ≡ Some body → bytes_told answer ≡ given body.file
 
--- and they have the SHA-256 of its body
-abbrev pub HasSum : Answer → Type 0
-HasSum (answers.Closed body) = Unit {0}
-HasSum answers.Forgot = Unit {0}
-HasSum (answers.Took job) = sha256 job.bytes ≡ job.body.sum
-HasSum answers.Idle = Unit {0}
-HasSum (answers.Settled fated) = Unit {0}
-HasSum answers.Stopping = Unit {0}
+-- and they have its SHA-256
+abbrev pub HasSum : Option Told → Answer → Type 0
+HasSum told answer = (body : BodyId) → wanted told ≡ Some body → sha256 (bytes_told answer) ≡ body.sum

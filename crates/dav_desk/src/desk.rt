@@ -4,12 +4,11 @@ ghost use Rattle.dav_store.specs.Rows.{IsPayload, IsReady};
 ghost use Rattle.dav_store.specs.View.{journal_end};
 ghost use Rattle.dav_index.specs.Bounds.{queued_count as queued_in};
 ghost use Rattle.dav_index.specs.declared.table.Table.{Table};
+ghost use Rattle.dav_deeds.specs.Answers.{kind_told, Ends};
 ghost use Rattle.dav_deeds.specs.DeskTable.{DeskTable, started};
-ghost use Rattle.dav_deeds.specs.Effects.{after};
+ghost use Rattle.dav_deeds.specs.Effects.{after, told_of};
 ghost use Rattle.dav_deeds.specs.Legal.{IsAsk, deed_of};
 ghost use Rattle.dav_deeds.specs.Spare.{HasSpare, kept_spare as kept_spare_lem, ends_job};
-ghost use Rattle.dav_deeds.specs.declared.answer.Fated.{Fated};
-ghost use Rattle.dav_deeds.specs.declared.answer.Told.TheVariants.{Settled};
 ghost use Rattle.dav_deeds.specs.declared.fault.DeskFault.TheVariants.{Memory as MemoryFault};
 ghost use Rattle.dav_deeds.specs.Sound.{IsSound};
 ghost use Rattle.dav_recorder.specs.Stands.{EachImage};
@@ -20,7 +19,7 @@ ghost use Rattle.dav_desk.specs.Verdict.{with_bytes as with_bytes_lem};
 ghost use Rattle.dav_desk.specs.Ends.{IsEnd};
 ghost use Rattle.dav_desk.specs.Room.{slots as slots_lem};
 
-use crate::entry::{bytes_of, enter, told_bytes};
+use crate::entry::{enter, told_bytes};
 use dav_deeds::{
     Answer, Ask, DeskFault, DeskTable, Made, Planned, Spare, Step, Told, Trace, Who, kept_spare,
 };
@@ -66,8 +65,14 @@ fn slots(told: &Option<Told>) -> usize
     ensures { result ≡ slots_lem told.now }
 {
     match told {
-        Some(Told::Settled(_)) => 1,
-        _ => 2,
+        Some(told) => {
+            if told.is_end() {
+                1
+            } else {
+                2
+            }
+        }
+        None => 2,
     }
 }
 
@@ -122,7 +127,7 @@ impl<D: Disk> Desk<D> {
     /// Does what is asked at this time, in seconds, and tells what it came to, or why it is refused. It is done in the table and
     /// on the disk, or in neither: a stop at any moment leaves the table from before or from after it. Then the step stands in
     /// the trace, a refused one too; a take that finds nothing is no step. Answers `Disk` where the disk failed, and `Damaged`
-    /// where the bytes of the job are not those that were kept. The desk is dead then, answers the same again, and does nothing
+    /// where the bytes of a body that is told are not those that were kept. The desk is dead then, answers the same again, and does nothing
     /// any more. Answers `Memory` only before the first device call, and nothing is changed then; never to the end of the job in
     /// flight, which uses the memory that was taken with the job.
     pub fn step(&mut self, who: Who, ask: &Ask, now: u64) -> Result<Answer, DeskFault>
@@ -134,8 +139,8 @@ impl<D: Disk> Desk<D> {
             → self.new.recorder.dead ≡ None → IsWorking D.moment D.seen D.past url opening start given self.new }
         ensures stopped { D.honest self.new.recorder.disk → (url : List ℕ) (opening : DeskTable) (start : ℕ) (given : ℕ → List ℕ) → AreGiven self.old.table given ask.now → IsWorking D.moment D.seen D.past url opening start given self.old
             → self.new.recorder.dead ≢ None → IsStopped D.moment D.past url opening start given self.new }
-        ensures bytes { D.honest self.new.recorder.disk → IfOk result (λ answer. (url : List ℕ) (opening : DeskTable) (start : ℕ) (given : ℕ → List ℕ) → IsWorking D.moment D.seen D.past url opening start given self.old → HasBytes given answer) }
-        ensures sum { IfOk result HasSum }
+        ensures bytes { D.honest self.new.recorder.disk → IfOk result (λ answer. (url : List ℕ) (opening : DeskTable) (start : ℕ) (given : ℕ → List ℕ) → IsWorking D.moment D.seen D.past url opening start given self.old → HasBytes given (told_of self.old.table now (deed_of self.old.table ask.now)) answer) }
+        ensures sum { IfOk result (HasSum (told_of self.old.table now (deed_of self.old.table ask.now))) }
         ensures sound { IsSound self.new.table }
         ensures readied { IsReadied D.honest D.moment D.seen D.past self.new }
         ensures changes { D.honest self.new.recorder.disk → ChangesAsked D.moment D.seen D.past now ask.now self.old self.new }
@@ -184,13 +189,13 @@ impl<D: Disk> Desk<D> {
             → self.new.recorder.dead ≡ None → IsWorking D.moment D.seen D.past url opening start given self.new }
         ensures stopped { D.honest self.new.recorder.disk → (url : List ℕ) (opening : DeskTable) (start : ℕ) (given : ℕ → List ℕ) → AreGiven self.old.table given ask.now → IsWorking D.moment D.seen D.past url opening start given self.old
             → self.new.recorder.dead ≢ None → IsStopped D.moment D.past url opening start given self.new }
-        ensures bytes { D.honest self.new.recorder.disk → IfOk result (λ answer. (url : List ℕ) (opening : DeskTable) (start : ℕ) (given : ℕ → List ℕ) → IsWorking D.moment D.seen D.past url opening start given self.old → HasBytes given answer) }
-        ensures sum { IfOk result HasSum }
+        ensures bytes { D.honest self.new.recorder.disk → IfOk result (λ answer. (url : List ℕ) (opening : DeskTable) (start : ℕ) (given : ℕ → List ℕ) → IsWorking D.moment D.seen D.past url opening start given self.old → HasBytes given planned.made.step.told answer) }
+        ensures sum { IfOk result (HasSum planned.made.step.told) }
         ensures sound { IsSound self.new.table }
         ensures readied { IsReadied D.honest D.moment D.seen D.past self.new }
         ensures changes { D.honest self.new.recorder.disk → ChangesAsked D.moment D.seen D.past planned.made.step.now ask.now self.old self.new }
         ensures put { D.honest self.new.recorder.disk → OnOk result (IsPut D.moment D.seen D.past planned.made.step.now ask.now self.old self.new) }
-        ensures ends { (fated : Fated) → planned.made.step.told ≡ Some (Settled fated) → IfErr result (λ e. e ≢ MemoryFault) }
+        ensures ends { kind_told planned.made.step.told ≡ Ends → IfErr result (λ e. e ≢ MemoryFault) }
         ensures keeps { D.honest self.new.recorder.disk → D.honest self.old.recorder.disk }
         ensures faults { D.faults self.old.recorder.disk ≤ D.faults self.new.recorder.disk }
     {
@@ -208,7 +213,7 @@ impl<D: Disk> Desk<D> {
         match enter(
             &mut self.recorder,
             step,
-            bytes_of(ask),
+            ask.bytes(),
             row,
             released.as_slice(),
         ) {

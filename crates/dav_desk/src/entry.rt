@@ -5,58 +5,44 @@ ghost use Rattle.dav_store.specs.Rows.{IsPayload, IsReady};
 ghost use Rattle.dav_store.specs.View.{journal_end};
 ghost use Rattle.dav_store.specs.declared.body_id.BodyId.{BodyId};
 ghost use Rattle.dav_index.specs.Bounds.{bodies_of};
+ghost use Rattle.dav_deeds.specs.Answers.{wanted};
 ghost use Rattle.dav_deeds.specs.DeskTable.{DeskTable};
 ghost use Rattle.dav_deeds.specs.Legal.{new_body, table_after};
-ghost use Rattle.dav_deeds.specs.declared.answer.Flight.{Flight};
-ghost use Rattle.dav_deeds.specs.declared.answer.Told.TheVariants.{Took};
 ghost use Rattle.dav_deeds.specs.declared.fault.DeskFault.TheVariants.{Disk as DiskFault, Memory as MemoryFault};
 ghost use Rattle.dav_recorder.specs.Files.{ChangesOnly, AreEmpty, IsStored};
 ghost use Rattle.dav_recorder.specs.Planned.{kept_table};
 ghost use Rattle.dav_recorder.specs.Stands.{IsWritten};
 ghost use Rattle.dav_recorder.specs.Survives.{IsLive, IsLeft};
-ghost use Rattle.dav_desk.specs.Entry.{bytes_in, file_in, IsEntry, IsMissing};
+ghost use Rattle.dav_desk.specs.Entry.{file_in, IsEntry, IsMissing};
 
-use dav_deeds::{Ask, Deed, DeskFault, Step, Told};
+use dav_deeds::{Deed, DeskFault, Step, Told};
 use dav_disk::Disk;
 use dav_recorder::Recorder;
 use dav_text::Blob;
 use std::alloc::Global;
 
-/// The bytes that are to be stored, if any are.
-pub(crate) fn bytes_of(ask: &Ask) -> &[u8]
-    ensures { result.now ≡ bytes_in ask.now }
-{
-    match ask {
-        Ask::Store { bytes, .. } => bytes.as_slice(),
-        _ => b"",
-    }
-}
-
 /// The file of the new body, if there is one.
 fn fresh_of(deed: &Deed) -> Option<u32>
     ensures { result ≡ file_in (new_body deed.now) }
 {
-    match deed {
-        Deed::Store {
-            body: Some(body),
-            ..
-        } => Some(body.file),
-        _ => None,
+    match deed.body() {
+        Some(body) => Some(body.file),
+        None => None,
     }
 }
 
-/// The bytes of the job that is told, and none where no job is. Answers `Memory` only before the first device call; after
+/// The bytes of the body that is told, and none where no body is. Answers `Memory` only before the first device call; after
 /// `Disk` and `Damaged` the desk is dead. At any answer a stop leaves what it left before.
 pub(crate) fn told_bytes<D: Disk>(
     alloc: Global,
     recorder: &mut Recorder<D>,
     told: &Option<Told>,
 ) -> Result<Blob, DeskFault>
-    ensures bytes { D.honest recorder.new.disk → IfOk result (λ blob. (flight : Flight) → told.now ≡ Some (Took flight) → (url : List ℕ) (opening : DeskTable) (start : ℕ) (given : ℕ → List ℕ)
-        → IsLive D.moment D.seen D.past url opening start given recorder.old → Contains (bodies_of (kept_table (table_after opening recorder.old.trace.steps.items))) flight.body → blob ≡ given flight.body.file) }
+    ensures bytes { D.honest recorder.new.disk → IfOk result (λ blob. (body : BodyId) → wanted told.now ≡ Some body → (url : List ℕ) (opening : DeskTable) (start : ℕ) (given : ℕ → List ℕ)
+        → IsLive D.moment D.seen D.past url opening start given recorder.old → Contains (bodies_of (kept_table (table_after opening recorder.old.trace.steps.items))) body → blob ≡ given body.file) }
     ensures live { D.honest recorder.new.disk → (url : List ℕ) (opening : DeskTable) (start : ℕ) (given : ℕ → List ℕ) → IsLive D.moment D.seen D.past url opening start given recorder.old
         → IsLive D.moment D.seen D.past url opening start given recorder.new }
-    ensures sum { IfOk result (λ blob. (flight : Flight) → told.now ≡ Some (Took flight) → sha256 blob ≡ flight.body.sum) }
+    ensures sum { IfOk result (λ blob. (body : BodyId) → wanted told.now ≡ Some body → sha256 blob ≡ body.sum) }
     ensures fault { IfErr result (λ e. IsMissing (D.honest recorder.new.disk) (D.seen recorder.old.disk) (D.seen recorder.new.disk) (D.faults recorder.old.disk) (D.faults recorder.new.disk) told.now e) }
     ensures starved { IfErr result (λ e. e ≡ MemoryFault → (recorder.new.disk ≡ recorder.old.disk) × (recorder.new.dead ≡ recorder.old.dead)) }
     ensures stopped { IfErr result (λ e. e ≢ MemoryFault → recorder.new.dead ≡ Some e) }
@@ -71,10 +57,10 @@ pub(crate) fn told_bytes<D: Disk>(
     let Some(told) = told else {
         return Ok(Blob::from_vec(Vec::new(alloc)));
     };
-    let Told::Took(flight) = told else {
+    let Some(body) = told.body() else {
         return Ok(Blob::from_vec(Vec::new(alloc)));
     };
-    match recorder.fetch(&flight.body) {
+    match recorder.fetch(&body) {
         Ok(bytes) => Ok(bytes),
         Err(fault) => Err(fault),
     }

@@ -10,32 +10,15 @@ use Rattle.dav_index.specs.declared.record.Record.{Record}
 use Rattle.dav_index.specs.declared.table.Table.{Table}
 use Rattle.dav_deeds.specs.DeskTable.{DeskTable}
 use Rattle.dav_deeds.specs.Effects.{after, record_of, released_of}
-use Rattle.dav_deeds.specs.Legal.{IsLegal, IsDeed, IsBodyUnless, new_body}
-use Rattle.dav_deeds.specs.Refusals.{store_refusal}
+use Rattle.dav_deeds.specs.Legal.{IsLegal, IsDeed, new_body}
 use Rattle.dav_deeds.specs.Sound.{IsSound}
 use Rattle.dav_deeds.specs.declared.deed.Deed.{Deed}
-use Rattle.dav_deeds.specs.declared.deed.Deed.TheVariants.{Store, Forget, Take, Settle, Stop}
 use Rattle.dav_deeds.specs.declared.deed.Step.{Step}
-use Rattle.dav_deeds.specs.declared.fault.DeskFault.{DeskFault}
-use Rattle.dav_deeds.proofs.Naming.{named}
-use Rattle.dav_deeds.proofs.Released.{spared}
+use Rattle.dav_deeds.proofs.AllRows.{after_sound, is_record, named, new_file, spared}
 use Rattle.dav_deeds.proofs.Resting.{rest_within, rest_bodies}
-use Rattle.dav_deeds.proofs.Sounds.{after_sound, is_record}
 use Rattle.dav_recorder.specs.Stands.{IsFile, Spares, IsCommit}
 use Rattle.dav_recorder.specs.Planned.{kept_table, IsPlanned, IsQuiet, HasNew}
 use Rattle.dav_recorder.proofs.LiveLemmas.{kept_after, kept_quiet}
-
-unless_file : (refused : Option DeskFault) (file len : ℕ) (body : BodyId) → IsBodyUnless refused file len (Some body) → body.file ≡ file
-unless_file None file len body is = is.0
-unless_file (Some fault) file len body is = absurd is
-
--- a new body is in the next file
-pub new_file : (t : DeskTable) (deed : Deed) (id : BodyId) → IsDeed t deed → new_body deed ≡ Some id → id.file ≡ t.index.next_file
-new_file t (Store path len body) id is new = unless_file (store_refusal t.index path len) t.index.next_file len id (subst (λ (o : Option BodyId). IsBodyUnless (store_refusal t.index path len) t.index.next_file len o) new is.1)
-new_file t (Forget path locks below) id is new = cc new
-new_file t Take id is new = cc new
-new_file t (Settle job done) id is new = cc new
-new_file t Stop id is new = cc new
 
 given_of : (new : Option BodyId) (bodies : ℕ → List ℕ) (fresh : Option ℕ) (bytes : List ℕ) → HasNew new bodies fresh bytes → (f : ℕ) → IsFile fresh f → bodies f ≡ bytes
 given_of None bodies fresh bytes has f is = absurd (subst (λ (o : Option ℕ). IsFile o f) has is)

@@ -22,7 +22,7 @@ use Rattle.dav_deeds.specs.declared.fault.DeskFault.{DeskFault}
 use Rattle.dav_deeds.proofs.Flying.{every_at}
 use Rattle.dav_deeds.proofs.Restart.{changed_reopens}
 use Rattle.dav_deeds.proofs.Resting.{rest_bodies}
-use Rattle.dav_deeds.proofs.Sounds.{steps_sound}
+use Rattle.dav_deeds.proofs.AllRows.{steps_sound}
 use Rattle.dav_deeds.proofs.Stories.{legal_front}
 use Rattle.dav_recorder.specs.Recovers.{Recovers, AllRecover, Replays}
 use Rattle.dav_recorder.specs.Stands.{IsGiven, IsIn, EachImage}

@@ -8,7 +8,7 @@ use Rattle.dav_deeds.specs.declared.answer.Told.{Told}
 use Rattle.dav_deeds.specs.declared.answer.Told.TheVariants.{Closed, Forgot, Took, Idle, Settled, Stopping}
 use Rattle.dav_deeds.specs.declared.deed.Step.{Step}
 use Rattle.dav_deeds.specs.declared.fault.DeskFault.{DeskFault}
-use Rattle.dav_deeds.proofs.Sounds.{after_sound}
+use Rattle.dav_deeds.proofs.AllRows.{after_sound}
 use Rattle.dav_desk.specs.Ended.{HasCause}
 use Rattle.dav_desk.specs.Ends.{IsEnd}
 use Rattle.dav_desk.specs.Verdict.{Verdict, Went, Stopped, Starved, step_of, unless_idle, steps_by, table_by}

@@ -13,8 +13,9 @@ use Rattle.dav_deeds.specs.declared.ask.Ask.TheVariants.{Store, Forget, Take, Se
 use Rattle.dav_deeds.specs.declared.deed.Deed.TheVariants as deeds
 use Rattle.dav_deeds.specs.declared.fault.DeskFault.{DeskFault}
 use Rattle.dav_deeds.specs.declared.fault.DeskFault.TheVariants as desk
-use Rattle.dav_deeds.proofs.Sounds.{after_sound}
-use Rattle.dav_deeds.proofs.Taking.{IsTakenNow, job_step}
+use Rattle.dav_deeds.proofs.AllRows.{after_sound}
+use Rattle.dav_deeds.proofs.AllRows.{job_step}
+use Rattle.dav_deeds.proofs.Taking.{IsTakenNow}
 use Rattle.dav_desk.specs.Verdict.{Verdict, Went, Stopped, Starved, result_by, table_by}
 use Rattle.dav_upload.specs.Resting.{IsOfShell, IsResting}
 use Rattle.dav_upload.proofs.Asks.{an_answer, a_fault}

@@ -36,7 +36,7 @@ use Rattle.dav_deeds.specs.declared.fault.DeskFault.TheVariants as desk
 use Rattle.dav_deeds.proofs.Entries.{changed_at, changed_other, entry_same, gone_at, kept_at}
 use Rattle.dav_deeds.proofs.Flying.{every_at, at_found}
 use Rattle.dav_deeds.proofs.Paths.{by_test, same_self, not_back, goes_at}
-use Rattle.dav_deeds.proofs.Sounds.{after_sound}
+use Rattle.dav_deeds.proofs.AllRows.{after_sound}
 use Rattle.dav_deeds.proofs.Taking.{IsPick, next_is_pick, taken_of}
 use Rattle.dav_index.proofs.Weights.{weight, changed_weight, without_weight, going_weight}
 use Rattle.dav_desk.specs.declared.desk.Desk.{Desk}

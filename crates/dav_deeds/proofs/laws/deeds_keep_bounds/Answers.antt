@@ -1,4 +1,4 @@
-use Rattle.dav_deeds.proofs.Sounds.{after_sound, steps_sound}
+use Rattle.dav_deeds.proofs.AllRows.{after_sound, steps_sound}
 use Rattle.dav_deeds.proofs.laws.deeds_keep_bounds.Goals as goal
 
 pub returns-clause-deed : goal.returns-clause-deed

@@ -1,4 +1,4 @@
-use Rattle.dav_deeds.proofs.Naming.{named}
+use Rattle.dav_deeds.proofs.AllRows.{named}
 use Rattle.dav_deeds.proofs.laws.deeds_name_one_body.Goals as goal
 
 pub returns : goal.returns

@@ -1,4 +1,4 @@
-use Rattle.dav_deeds.proofs.Sparing.{spare_after}
+use Rattle.dav_deeds.proofs.AllRows.{spare_after}
 use Rattle.dav_deeds.proofs.laws.ends_have_room.Goals as goal
 
 pub returns : goal.returns

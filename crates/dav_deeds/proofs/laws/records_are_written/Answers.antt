@@ -1,4 +1,4 @@
-use Rattle.dav_deeds.proofs.Sounds.{is_record}
+use Rattle.dav_deeds.proofs.AllRows.{is_record}
 use Rattle.dav_deeds.proofs.laws.records_are_written.Goals as goal
 
 pub returns : goal.returns

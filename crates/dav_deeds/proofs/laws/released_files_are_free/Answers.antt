@@ -1,4 +1,4 @@
-use Rattle.dav_deeds.proofs.Released.{spared, released_begin}
+use Rattle.dav_deeds.proofs.AllRows.{spared, released_begin}
 use Rattle.dav_deeds.proofs.laws.released_files_are_free.Goals as goal
 
 pub returns-clause-body : goal.returns-clause-body

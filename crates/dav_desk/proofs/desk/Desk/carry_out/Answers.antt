@@ -2,13 +2,13 @@ use Rattle.std.proofs.Common.{rules, ◌≡◌, ◌≢◌, Result, ℕ, ◌<◌,
 use Rattle.std.specs.Prelude.{IfErr, vec_capacity}
 use Rattle.std.proofs.lemmas.Bool.{false≢true}
 use Rattle.std.proofs.lemmas.Result.{err_from_is_err_and}
+use Rattle.dav_deeds.specs.Answers.{Ends, kind_told, wanted}
 use Rattle.dav_deeds.specs.DeskTable.{DeskTable}
 use Rattle.dav_deeds.specs.Effects.{after, effect_of}
 use Rattle.dav_deeds.specs.Legal.{deed_of, new_body}
 use Rattle.dav_deeds.specs.Sound.{IsSound}
 use Rattle.dav_deeds.specs.declared.answer.Answer.{Answer}
 use Rattle.dav_deeds.specs.declared.answer.Told.{Told}
-use Rattle.dav_deeds.specs.declared.answer.Told.TheVariants.{Took, Settled}
 use Rattle.dav_deeds.specs.declared.fault.DeskFault.{DeskFault}
 use Rattle.dav_deeds.specs.declared.fault.DeskFault.TheVariants.{Disk, Memory}
 use Rattle.dav_deeds.specs.declared.spare.Spare.{Spare}
@@ -18,13 +18,14 @@ use Rattle.dav_desk.specs.Verdict.{with_bytes}
 use Rattle.dav_deeds.specs.declared.deed.Deed.{Deed}
 use Rattle.dav_deeds.specs.declared.deed.Step.{Step}
 use Rattle.dav_deeds.specs.declared.deed.Trace.{Trace}
-use Rattle.dav_deeds.proofs.Sounds.{after_sound}
+use Rattle.dav_deeds.proofs.AllRows.{after_sound, new_begins}
+use Rattle.dav_deeds.proofs.Rows.{end_wants}
 use Rattle.dav_recorder.specs.declared.recorder.Recorder.{Recorder}
 use Rattle.dav_desk.specs.Working.{IsWorking, HasBytes, HasSum}
 use Rattle.dav_desk.proofs.Carrying.{Base, Read, Stood, starved_asked, starved_readied, starved_faults, starved_works, starved_lives_on, can_record, missing_asked, missing_readied, read_faults, read_works, read_left, read_entry, read_named, lives, lives_read, entered_faults, failed_asked, failed_readied, failed_not_alive, went_asked, went_readied, went_works, went_lives_on}
 use Rattle.dav_desk.proofs.Rooming.{held_slot, one_slot}
-use Rattle.dav_desk.proofs.Entering.{row_fits, new_begins, freed_begin}
-use Rattle.dav_desk.proofs.Going.{answer_has, job_bytes, job_sum}
+use Rattle.dav_desk.proofs.Entering.{row_fits, freed_begin}
+use Rattle.dav_desk.proofs.Going.{answer_has, body_bytes, body_sum, end_answers}
 use Rattle.dav_recorder.proofs.Filing.{changes_none}
 use Rattle.dav_recorder.specs.Stands.{IsWritten}
 use Rattle.dav_desk.specs.Changed.{fresh_by, freed_by}
@@ -69,8 +70,8 @@ returns-in_err-reserve-clause-readied g c =
     let b : Base g.D.Disk.honest g.D.Disk.moment g.D.Disk.seen g.D.Disk.past c.args.self.now c.args.ask.now c.args.planned c.args.row.now c.reserve.new.self =
     record { alive = c.requires.alive; sound = c.requires.sound; plan = c.requires.plan; ready = c.requires.ready; held = c.requires.held; rest = c.reserve.ensures.rest; room = c.reserve.ensures.items; more = c.reserve.ensures.capacity } in
     starved_readied g.D.Disk.honest g.D.Disk.moment g.D.Disk.seen g.D.Disk.past g.D.Disk.faults c.args.self.now c.args.ask.now c.args.planned c.args.row.now c.reserve.new.self b
-    (λ fated same.
-    let slot = held_slot c.args.self.now c.args.planned.made.step.told fated same c.requires.held in
+    (λ same.
+    let slot = held_slot c.args.self.now c.args.planned.made.step.told same c.requires.held in
     false≢true (c.in_err-reserve.ensures.succeeds (omega (arith, slot, c.slots.ensures))))
 
 pub returns-in_err-reserve-clause-faults : goal.returns-in_err-reserve-clause-faults
@@ -129,11 +130,11 @@ enter-requires-clause-fits g c =
 
 pub enter-requires-clause-fresh_apart : goal.enter-requires-clause-fresh_apart
 enter-requires-clause-fresh_apart g c id new =
-    new_begins c.args.self.now.table (deed_of c.args.self.now.table c.args.ask.now) id c.requires.sound c.requires.plan.is_deed (ap (λ (x : Deed). new_body x) (sym (ap (λ (s : Step). s.deed) c.requires.plan.step)) ∙ new)
+    new_begins c.args.self.now.table c.requires.sound (deed_of c.args.self.now.table c.args.ask.now) id c.requires.plan.is_deed (ap (λ (x : Deed). new_body x) (sym (ap (λ (s : Step). s.deed) c.requires.plan.step)) ∙ new)
 
 pub enter-requires-clause-freed_apart : goal.enter-requires-clause-freed_apart
 enter-requires-clause-freed_apart g c =
-    freed_begin c.args.self.now.table c.args.planned.made.step.now (deed_of c.args.self.now.table c.args.ask.now) c.as_slice.result.now c.requires.sound (c.as_slice.ensures.value ∙ c.requires.plan.released)
+    freed_begin c.args.self.now.table c.args.planned.made.step.now (deed_of c.args.self.now.table c.args.ask.now) c.as_slice.result.now c.requires.sound c.requires.plan.is_deed (c.as_slice.ensures.value ∙ c.requires.plan.released)
 
 pub enter-requires-clause-room : goal.enter-requires-clause-room
 enter-requires-clause-room g c =
@@ -168,7 +169,7 @@ returns-in-Err-enter-clause-stopped g c h url opening start given has is dead =
     record { alive = c.requires.alive; sound = c.requires.sound; plan = c.requires.plan; ready = c.requires.ready; held = c.requires.held; rest = c.reserve.ensures.rest; room = c.reserve.ensures.items; more = c.reserve.ensures.capacity } in
     let k : Read g.D.Disk.honest g.D.Disk.moment g.D.Disk.seen g.D.Disk.past g.D.Disk.faults c.reserve.new.self c.told_bytes.new.recorder =
     record { trace = c.told_bytes.ensures.trace; more = c.told_bytes.ensures.faults; keeps = c.told_bytes.ensures.keeps; ready = c.told_bytes.ensures.ready; live = c.told_bytes.ensures.live } in
-    c.in-Err-enter.ensures.left h url opening start given (read_entry g.D.Disk.honest g.D.Disk.moment g.D.Disk.seen g.D.Disk.past g.D.Disk.faults c.args.self.now c.args.ask.now c.args.planned c.args.row.now c.reserve.new.self b c.told_bytes.new.recorder k (c.enter.ensures.keeps h) url opening start given is has c.bytes_of.result.now c.as_slice.result.now c.bytes_of.ensures c.as_slice.ensures.value) (lives_read g.D.Disk.honest g.D.Disk.moment g.D.Disk.seen g.D.Disk.past g.D.Disk.faults c.args.self.now c.args.ask.now c.args.planned c.args.row.now c.reserve.new.self b c.told_bytes.new.recorder k (c.enter.ensures.keeps h) url opening start given is)
+    c.in-Err-enter.ensures.left h url opening start given (read_entry g.D.Disk.honest g.D.Disk.moment g.D.Disk.seen g.D.Disk.past g.D.Disk.faults c.args.self.now c.args.ask.now c.args.planned c.args.row.now c.reserve.new.self b c.told_bytes.new.recorder k (c.enter.ensures.keeps h) url opening start given is has c.bytes.result.now c.as_slice.result.now c.bytes.ensures c.as_slice.ensures.value) (lives_read g.D.Disk.honest g.D.Disk.moment g.D.Disk.seen g.D.Disk.past g.D.Disk.faults c.args.self.now c.args.ask.now c.args.planned c.args.row.now c.reserve.new.self b c.told_bytes.new.recorder k (c.enter.ensures.keeps h) url opening start given is)
 
 pub returns-in-Err-enter-clause-sound : goal.returns-in-Err-enter-clause-sound
 returns-in-Err-enter-clause-sound g c =
@@ -226,7 +227,7 @@ returns-clause-working g c h url opening start given has is dead =
       ended = c.in-Ok-enter.ensures.ended;
       applied = c.apply.ensures c.args.planned.made.step.now (deed_of c.args.self.now.table c.args.ask.now) c.requires.plan.change;
     } in
-    went_works g.D.Disk.honest g.D.Disk.moment g.D.Disk.seen g.D.Disk.past g.D.Disk.faults c.args.self.now c.args.ask.now c.args.planned c.args.row.now c.reserve.new.self b c.told_bytes.new.recorder k c.enter.new.recorder c.apply.new.self c.kept_spare.result m url opening start given is (c.in-Ok-enter.ensures.live h url opening start given (read_entry g.D.Disk.honest g.D.Disk.moment g.D.Disk.seen g.D.Disk.past g.D.Disk.faults c.args.self.now c.args.ask.now c.args.planned c.args.row.now c.reserve.new.self b c.told_bytes.new.recorder k (c.enter.ensures.keeps h) url opening start given is has c.bytes_of.result.now c.as_slice.result.now c.bytes_of.ensures c.as_slice.ensures.value) (lives_read g.D.Disk.honest g.D.Disk.moment g.D.Disk.seen g.D.Disk.past g.D.Disk.faults c.args.self.now c.args.ask.now c.args.planned c.args.row.now c.reserve.new.self b c.told_bytes.new.recorder k (c.enter.ensures.keeps h) url opening start given is))
+    went_works g.D.Disk.honest g.D.Disk.moment g.D.Disk.seen g.D.Disk.past g.D.Disk.faults c.args.self.now c.args.ask.now c.args.planned c.args.row.now c.reserve.new.self b c.told_bytes.new.recorder k c.enter.new.recorder c.apply.new.self c.kept_spare.result m url opening start given is (c.in-Ok-enter.ensures.live h url opening start given (read_entry g.D.Disk.honest g.D.Disk.moment g.D.Disk.seen g.D.Disk.past g.D.Disk.faults c.args.self.now c.args.ask.now c.args.planned c.args.row.now c.reserve.new.self b c.told_bytes.new.recorder k (c.enter.ensures.keeps h) url opening start given is has c.bytes.result.now c.as_slice.result.now c.bytes.ensures c.as_slice.ensures.value) (lives_read g.D.Disk.honest g.D.Disk.moment g.D.Disk.seen g.D.Disk.past g.D.Disk.faults c.args.self.now c.args.ask.now c.args.planned c.args.row.now c.reserve.new.self b c.told_bytes.new.recorder k (c.enter.ensures.keeps h) url opening start given is))
 
 pub returns-clause-stopped : goal.returns-clause-stopped
 returns-clause-stopped g c h url opening start given has is dead =
@@ -249,15 +250,15 @@ returns-clause-bytes g c h =
     record { alive = c.requires.alive; sound = c.requires.sound; plan = c.requires.plan; ready = c.requires.ready; held = c.requires.held; rest = c.reserve.ensures.rest; room = c.reserve.ensures.items; more = c.reserve.ensures.capacity } in
     let k : Read g.D.Disk.honest g.D.Disk.moment g.D.Disk.seen g.D.Disk.past g.D.Disk.faults c.reserve.new.self c.told_bytes.new.recorder =
     record { trace = c.told_bytes.ensures.trace; more = c.told_bytes.ensures.faults; keeps = c.told_bytes.ensures.keeps; ready = c.told_bytes.ensures.ready; live = c.told_bytes.ensures.live } in
-    answer_has (λ (a : Answer). (url : List ℕ) (opening : DeskTable) (start : ℕ) (given : ℕ → List ℕ) → IsWorking g.D.Disk.moment g.D.Disk.seen g.D.Disk.past url opening start given c.args.self.now → HasBytes given a)
+    answer_has (λ (a : Answer). (url : List ℕ) (opening : DeskTable) (start : ℕ) (given : ℕ → List ℕ) → IsWorking g.D.Disk.moment g.D.Disk.seen g.D.Disk.past url opening start given c.args.self.now → HasBytes given c.args.planned.made.step.told a)
     (effect_of c.args.self.now.table c.args.planned.made.step.now (deed_of c.args.self.now.table c.args.ask.now)).mark (effect_of c.args.self.now.table c.args.planned.made.step.now (deed_of c.args.self.now.table c.args.ask.now)).told c.in-Ok.bytes c.args.planned.made.answer c.with_bytes.result c.with_bytes.ensures c.requires.plan.answer
-    (λ told at url opening start given is. job_bytes given c.in-Ok.bytes told
-    (λ flight same. c.in-Ok.ensures.bytes (c.enter.ensures.keeps h) flight (ap (λ (s : Step). s.told) c.requires.plan.step ∙ at ∙ ap (λ (x : Told). Some x) same) url opening start given (lives g.D.Disk.honest g.D.Disk.moment g.D.Disk.seen g.D.Disk.past g.D.Disk.faults c.args.self.now c.args.ask.now c.args.planned c.args.row.now c.reserve.new.self b url opening start given is) (read_named g.D.Disk.honest g.D.Disk.moment g.D.Disk.seen g.D.Disk.past g.D.Disk.faults c.args.self.now c.args.ask.now c.args.planned c.args.row.now c.reserve.new.self b c.told_bytes.new.recorder k (c.enter.ensures.keeps h) url opening start given is flight (ap (λ (s : Step). s.told) c.requires.plan.step ∙ at ∙ ap (λ (x : Told). Some x) same))))
+    (λ told at url opening start given is. body_bytes given c.in-Ok.bytes c.args.planned.made.step.told told (ap (λ (s : Step). s.told) c.requires.plan.step ∙ at)
+    (λ body same. c.in-Ok.ensures.bytes (c.enter.ensures.keeps h) body same url opening start given (lives g.D.Disk.honest g.D.Disk.moment g.D.Disk.seen g.D.Disk.past g.D.Disk.faults c.args.self.now c.args.ask.now c.args.planned c.args.row.now c.reserve.new.self b url opening start given is) (read_named g.D.Disk.honest g.D.Disk.moment g.D.Disk.seen g.D.Disk.past g.D.Disk.faults c.args.self.now c.args.ask.now c.args.planned c.args.row.now c.reserve.new.self b c.told_bytes.new.recorder k (c.enter.ensures.keeps h) url opening start given is body same)))
 
 pub returns-clause-sum : goal.returns-clause-sum
 returns-clause-sum g c =
-    answer_has HasSum (effect_of c.args.self.now.table c.args.planned.made.step.now (deed_of c.args.self.now.table c.args.ask.now)).mark (effect_of c.args.self.now.table c.args.planned.made.step.now (deed_of c.args.self.now.table c.args.ask.now)).told c.in-Ok.bytes c.args.planned.made.answer c.with_bytes.result c.with_bytes.ensures c.requires.plan.answer
-    (λ told at. job_sum c.in-Ok.bytes told (λ flight same. c.in-Ok.ensures.sum flight (ap (λ (s : Step). s.told) c.requires.plan.step ∙ at ∙ ap (λ (x : Told). Some x) same)))
+    answer_has (HasSum c.args.planned.made.step.told) (effect_of c.args.self.now.table c.args.planned.made.step.now (deed_of c.args.self.now.table c.args.ask.now)).mark (effect_of c.args.self.now.table c.args.planned.made.step.now (deed_of c.args.self.now.table c.args.ask.now)).told c.in-Ok.bytes c.args.planned.made.answer c.with_bytes.result c.with_bytes.ensures c.requires.plan.answer
+    (λ told at. body_sum c.in-Ok.bytes c.args.planned.made.step.told told (ap (λ (s : Step). s.told) c.requires.plan.step ∙ at) (λ body same. c.in-Ok.ensures.sum body same))
 
 pub returns-clause-sound : goal.returns-clause-sound
 returns-clause-sound g c =
@@ -303,43 +304,45 @@ returns-in-Err-clause-changes g c h =
 
 pub returns-in-Err-enter-clause-changes : goal.returns-in-Err-enter-clause-changes
 returns-in-Err-enter-clause-changes g c h =
-    changes_asked c.args.self.now.table c.args.planned.made.step.now c.args.ask.now c.args.planned.made.step.deed c.bytes_of.result.now c.as_slice.result.now (ap (λ (s : Step). s.deed) c.requires.plan.step) (c.as_slice.ensures.value ∙ c.requires.plan.released) g.D.Disk.moment g.D.Disk.seen g.D.Disk.past
+    changes_asked c.args.self.now.table c.args.planned.made.step.now c.args.ask.now c.args.planned.made.step.deed c.bytes.result.now c.as_slice.result.now (ap (λ (s : Step). s.deed) c.requires.plan.step) c.requires.plan.is_deed (c.as_slice.ensures.value ∙ c.requires.plan.released) g.D.Disk.moment g.D.Disk.seen g.D.Disk.past
     c.args.self.now.recorder.disk c.reserve.new.self.disk c.told_bytes.new.recorder.disk c.enter.new.recorder.disk (ap (λ (x : Recorder g.row.D.Denot). x.disk) c.reserve.ensures.rest) (c.told_bytes.ensures.changes (c.enter.ensures.keeps h)) (c.enter.ensures.changes h)
 
 pub returns-clause-changes : goal.returns-clause-changes
 returns-clause-changes g c h =
-    changes_asked c.args.self.now.table c.args.planned.made.step.now c.args.ask.now c.args.planned.made.step.deed c.bytes_of.result.now c.as_slice.result.now (ap (λ (s : Step). s.deed) c.requires.plan.step) (c.as_slice.ensures.value ∙ c.requires.plan.released) g.D.Disk.moment g.D.Disk.seen g.D.Disk.past
+    changes_asked c.args.self.now.table c.args.planned.made.step.now c.args.ask.now c.args.planned.made.step.deed c.bytes.result.now c.as_slice.result.now (ap (λ (s : Step). s.deed) c.requires.plan.step) c.requires.plan.is_deed (c.as_slice.ensures.value ∙ c.requires.plan.released) g.D.Disk.moment g.D.Disk.seen g.D.Disk.past
     c.args.self.now.recorder.disk c.reserve.new.self.disk c.told_bytes.new.recorder.disk c.enter.new.recorder.disk (ap (λ (x : Recorder g.row.D.Denot). x.disk) c.reserve.ensures.rest) (c.told_bytes.ensures.changes (c.enter.ensures.keeps h)) (c.enter.ensures.changes h)
 
 pub returns-clause-put : goal.returns-clause-put
 returns-clause-put g c h =
     let disk = c.enter.new.recorder.disk in
     on_ok_any c.with_bytes.result (record {
-      stored = stored_asked c.args.self.now.table c.args.planned.made.step.now c.args.ask.now c.args.planned.made.step.deed c.bytes_of.result.now c.as_slice.result.now (ap (λ (s : Step). s.deed) c.requires.plan.step) (c.as_slice.ensures.value ∙ c.requires.plan.released)
-          c.args.row.now (g.D.Disk.seen disk) (g.D.Disk.past disk (g.D.Disk.moment disk)) c.bytes_of.ensures c.requires.plan.row_is (c.in-Ok-enter.ensures.stored h);
-      emptied = empty_asked c.args.self.now.table c.args.planned.made.step.now c.args.ask.now c.args.planned.made.step.deed c.bytes_of.result.now c.as_slice.result.now (ap (λ (s : Step). s.deed) c.requires.plan.step) (c.as_slice.ensures.value ∙ c.requires.plan.released)
+      stored = stored_asked c.args.self.now.table c.args.planned.made.step.now c.args.ask.now c.args.planned.made.step.deed c.bytes.result.now c.as_slice.result.now (ap (λ (s : Step). s.deed) c.requires.plan.step) c.requires.plan.is_deed (c.as_slice.ensures.value ∙ c.requires.plan.released)
+          c.args.row.now (g.D.Disk.seen disk) (g.D.Disk.past disk (g.D.Disk.moment disk)) c.bytes.ensures c.requires.plan.row_is (c.in-Ok-enter.ensures.stored h);
+      emptied = empty_asked c.args.self.now.table c.args.planned.made.step.now c.args.ask.now c.args.planned.made.step.deed c.bytes.result.now c.as_slice.result.now (ap (λ (s : Step). s.deed) c.requires.plan.step) c.requires.plan.is_deed (c.as_slice.ensures.value ∙ c.requires.plan.released)
           (g.D.Disk.seen disk) (g.D.Disk.past disk (g.D.Disk.moment disk)) (c.in-Ok-enter.ensures.emptied h);
     })
 
 pub returns-in_err-reserve-clause-ends : goal.returns-in_err-reserve-clause-ends
-returns-in_err-reserve-clause-ends g c fated same =
-    let slot = held_slot c.args.self.now c.args.planned.made.step.told fated same c.requires.held in
+returns-in_err-reserve-clause-ends g c same =
+    let slot = held_slot c.args.self.now c.args.planned.made.step.told same c.requires.held in
     absurd (false≢true (c.in_err-reserve.ensures.succeeds (omega (arith, slot, c.slots.ensures))))
 
 pub returns-in-Err-clause-ends : goal.returns-in-Err-clause-ends
-returns-in-Err-clause-ends g c fated same want =
+returns-in-Err-clause-ends g c same want =
     let missing = c.in-Err.ensures.fault in
-    let both : ◌≡◌ {A = Option Told} (Some (Took missing.flight)) (Some (Settled fated)) = sym missing.is_told ∙ same in
-    cc both
+    let no : None ≡ Some missing.body = sym (end_wants c.args.planned.made.step.told same) ∙ missing.is_wanted in
+    cc no
 
 pub returns-in-Err-enter-clause-ends : goal.returns-in-Err-enter-clause-ends
-returns-in-Err-enter-clause-ends g c fated same want =
+returns-in-Err-enter-clause-ends g c same want =
     let both : Disk ≡ Memory = sym c.in-Err-enter.ensures.stopped.0 ∙ want in
     cc both
 
 pub returns-clause-ends : goal.returns-clause-ends
-returns-clause-ends g c fated same =
-    let e = effect_of c.args.self.now.table c.args.planned.made.step.now (deed_of c.args.self.now.table c.args.ask.now) in
-    let told : e.told ≡ Some (Settled fated) = sym (ap (λ (s : Step). s.told) c.requires.plan.step) ∙ same in
+returns-clause-ends g c same =
+    let t = c.args.self.now.table in
+    let e = effect_of t c.args.planned.made.step.now (deed_of t c.args.ask.now) in
+    let told : kind_told e.told ≡ Ends = ap kind_told (sym (ap (λ (s : Step). s.told) c.requires.plan.step)) ∙ same in
     subst (λ (r : Result Answer DeskFault). IfErr r (λ fault. fault ≢ Memory))
-    (sym (c.with_bytes.ensures ∙ ap (λ (r : Result Told DeskFault). with_bytes r c.in-Ok.bytes) (c.requires.plan.answer ∙ ap (λ (o : Option Told). answer_by e.mark o) told))) tt
+    (sym (c.with_bytes.ensures ∙ ap (λ (r : Result Told DeskFault). with_bytes r c.in-Ok.bytes) c.requires.plan.answer))
+    (end_answers e.mark e.told c.in-Ok.bytes told)

@@ -1,19 +1,21 @@
 use Rattle.std.proofs.Common.{◌≡◌, ℕ, List, Option, Some, None, OnOk, refl, sym, ◌∙◌, ap, subst}
 use Rattle.std.proofs.lemmas.Bool.{false≢true}
 use Rattle.std.proofs.lemmas.Result.{err_from_is_err_and}
+use Rattle.std.specs.Prelude.{IfOk}
+use Rattle.dav_store.specs.declared.body_id.BodyId.{BodyId}
+use Rattle.dav_deeds.specs.Answers.{kind_told, wanted}
 use Rattle.dav_deeds.specs.DeskTable.{DeskTable}
-use Rattle.dav_deeds.specs.Effects.{after}
-use Rattle.dav_deeds.specs.Legal.{deed_of}
+use Rattle.dav_deeds.specs.Effects.{after, told_of}
+use Rattle.dav_deeds.specs.Legal.{bytes_in, deed_of}
 use Rattle.dav_deeds.specs.Spare.{HasSpare, IsSaved, kept_spare}
 use Rattle.dav_deeds.specs.declared.answer.Answer.{Answer}
 use Rattle.dav_deeds.specs.declared.answer.Told.{Told}
 use Rattle.dav_deeds.proofs.Flying.{taken_within}
-use Rattle.dav_deeds.proofs.Sparing.{end_told, settled_ends, spare_after}
+use Rattle.dav_deeds.proofs.AllRows.{end_told, given_is, spare_after, told_ends}
 use Rattle.dav_deeds.proofs.Taking.{taken_of}
 use Rattle.dav_desk.specs.declared.desk.Desk.{Desk}
-use Rattle.dav_desk.specs.Working.{IsWorking, HasBytes}
+use Rattle.dav_desk.specs.Working.{IsWorking, HasBytes, HasSum}
 use Rattle.dav_desk.proofs.Rooming.{end_held, end_frees, room_held}
-use Rattle.dav_desk.proofs.Telling.{took_is}
 use Rattle.dav_deeds.specs.declared.fault.DeskFault.{DeskFault}
 use Rattle.dav_desk.proofs.Asking.{asked_dead, asked_starved}
 use Rattle.dav_recorder.specs.Stands.{IsWritten}
@@ -22,7 +24,6 @@ use Rattle.dav_deeds.specs.Change.{IsPlan}
 use Rattle.dav_deeds.specs.declared.plan.Planned.{Planned}
 use Rattle.dav_deeds.specs.declared.deed.Step.{Step}
 use Rattle.dav_desk.specs.Changed.{fresh_by, freed_by, IsPut}
-use Rattle.dav_desk.specs.Entry.{bytes_in}
 use Rattle.dav_desk.proofs.Changing.{idle_frees, stored_nothing, empty_nothing, ok_map, on_ok_map}
 use Rattle.dav_desk.proofs.desk.Desk.step.Goals as goal
 
@@ -55,8 +56,7 @@ pub carry_out-requires-clause-held : goal.carry_out-requires-clause-held
 carry_out-requires-clause-held g c =
     let old = c.args.self.now in
     let ends = sym c.ends_job.ensures ∙ c.if-ends_job.true in
-    let told = end_told old.table c.args.now c.args.ask.now ends in
-    end_held old c.take.new.self c.args.ask.now c.plan_end-planned.result.made.step.told told.0 ends (ap (λ (s : Step). s.told) c.plan_end-planned.ensures.step ∙ told.1) (c.requires.readied.room (sym c.in_default.ensures))
+    end_held old c.take.new.self c.args.ask.now c.plan_end-planned.result.made.step.told ends (ap (λ (s : Step). kind_told s.told) c.plan_end-planned.ensures.step ∙ end_told old.table c.args.now c.args.ask.now ends) (c.requires.readied.room (sym c.in_default.ensures))
 
 pub carry_out-requires-clause-next : goal.carry_out-requires-clause-next
 carry_out-requires-clause-next g c = end_frees c.args.self.now.table c.plan_end-planned.result.made.step.now c.args.ask.now c.take.new.self (sym c.ends_job.ensures ∙ c.if-ends_job.true)
@@ -71,9 +71,13 @@ returns-then-ends_job-clause-stopped g c h url opening start given has is dead =
 
 pub returns-then-ends_job-clause-bytes : goal.returns-then-ends_job-clause-bytes
 returns-then-ends_job-clause-bytes g c h =
-    let works : Desk g.row.D.Denot → Answer → Type 0 = λ (desk : Desk g.row.D.Denot) (answer : Answer). (url : List ℕ) (opening : DeskTable) (start : ℕ) (given : ℕ → List ℕ) → IsWorking g.D.Disk.moment g.D.Disk.seen g.D.Disk.past url opening start given desk → HasBytes given answer in
-    ok_map c.carry_out.result (works (record c.args.self.now { spare = c.take.new.self })) (works c.args.self.now)
-    (λ answer has url opening start given is. has url opening start given (record { alive = is.alive; table = is.table; live = is.live })) (c.carry_out.ensures.bytes h)
+    let works : Option Told → Desk g.row.D.Denot → Answer → Type 0 = λ (told : Option Told) (desk : Desk g.row.D.Denot) (answer : Answer). (url : List ℕ) (opening : DeskTable) (start : ℕ) (given : ℕ → List ℕ) → IsWorking g.D.Disk.moment g.D.Disk.seen g.D.Disk.past url opening start given desk → HasBytes given told answer in
+    ok_map c.carry_out.result (works c.plan_end-planned.result.made.step.told (record c.args.self.now { spare = c.take.new.self })) (works (told_of c.args.self.now.table c.args.now (deed_of c.args.self.now.table c.args.ask.now)) c.args.self.now)
+    (λ answer has url opening start given is. subst (λ (told : Option Told). HasBytes given told answer) (ap (λ (s : Step). s.told) c.plan_end-planned.ensures.step) (has url opening start given (record { alive = is.alive; table = is.table; live = is.live }))) (c.carry_out.ensures.bytes h)
+
+pub returns-then-ends_job-clause-sum : goal.returns-then-ends_job-clause-sum
+returns-then-ends_job-clause-sum g c =
+    subst (λ (told : Option Told). IfOk c.carry_out.result (HasSum told)) (ap (λ (s : Step). s.told) c.plan_end-planned.ensures.step) c.carry_out.ensures.sum
 
 pub returns-then-ends_job-clause-put : goal.returns-then-ends_job-clause-put
 returns-then-ends_job-clause-put g c h =
@@ -84,14 +88,13 @@ returns-then-ends_job-clause-put g c h =
 
 pub returns-then-ends_job-clause-ends : goal.returns-then-ends_job-clause-ends
 returns-then-ends_job-clause-ends g c ends =
-    let told = end_told c.args.self.now.table c.args.now c.args.ask.now ends in
-    c.carry_out.ensures.ends told.0 (ap (λ (s : Step). s.told) c.plan_end-planned.ensures.step ∙ told.1)
+    c.carry_out.ensures.ends (ap (λ (s : Step). kind_told s.told) c.plan_end-planned.ensures.step ∙ end_told c.args.self.now.table c.args.now c.args.ask.now ends)
 
 pub save-requires : goal.save-requires
 save-requires g c =
     let t = c.args.self.now.table in
     let plan : IsPlan t c.args.who c.args.now c.args.ask.now (Some c.in-Some-2.planned) c.plan.new.row.items = subst (λ (p : Option Planned). IsPlan t c.args.who c.args.now c.args.ask.now p c.plan.new.row.items) c.in-Some-2.is c.in_ok-planned.ensures.plan in
-    record { bare = λ flight is. (taken_within t.index flight c.index.ensures.sound.index (taken_of t c.args.now flight (took_is t c.args.now c.args.ask.now flight (sym (ap (λ (s : Step). s.told) plan.step) ∙ is))).1).bare }
+    record { bare = λ flight is. (taken_within t.index flight c.index.ensures.sound.index (taken_of t c.args.now flight (given_is t c.args.now (deed_of t c.args.ask.now) flight (ap kind_told (sym (ap (λ (s : Step). s.told) plan.step) ∙ is))).taken_is).1).bare }
 
 pub returns-in_err-saved-clause-asked : goal.returns-in_err-saved-clause-asked
 returns-in_err-saved-clause-asked g c =
@@ -103,7 +106,7 @@ carry_out-requires-2-clause-held g c =
     let t = c.args.self.now.table in
     let plan : IsPlan t c.args.who c.args.now c.args.ask.now (Some c.in-Some-2.planned) c.plan.new.row.items = subst (λ (p : Option Planned). IsPlan t c.args.who c.args.now c.args.ask.now p c.plan.new.row.items) c.in-Some-2.is c.in_ok-planned.ensures.plan in
     room_held c.args.self.now c.in-Some-2.planned.made.step.told
-    (λ fated same. false≢true (sym c.if-ends_job.false ∙ c.ends_job.ensures ∙ settled_ends t c.args.now c.args.ask.now fated (sym (ap (λ (s : Step). s.told) plan.step) ∙ same)))
+    (λ same. false≢true (sym c.if-ends_job.false ∙ c.ends_job.ensures ∙ told_ends t c.args.now c.args.ask.now (ap kind_told (sym (ap (λ (s : Step). s.told) plan.step)) ∙ same)))
     (c.requires.readied.room (sym c.in_default.ensures))
 
 pub carry_out-requires-2-clause-next : goal.carry_out-requires-2-clause-next
@@ -120,3 +123,28 @@ returns-clause-put g c h =
     let t = c.args.self.now.table in
     let plan : IsPlan t c.args.who c.args.now c.args.ask.now (Some c.in-Some-2.planned) c.plan.new.row.items = subst (λ (p : Option Planned). IsPlan t c.args.who c.args.now c.args.ask.now p c.plan.new.row.items) c.in-Some-2.is c.in_ok-planned.ensures.plan in
     subst (λ (n : ℕ). OnOk c.carry_out-2.result (IsPut g.D.Disk.moment g.D.Disk.seen g.D.Disk.past n c.args.ask.now c.args.self.now c.carry_out-2.new.self)) (ap (λ (s : Step). s.now) plan.step) (c.carry_out-2.ensures.put h)
+
+pub returns-clause-bytes : goal.returns-clause-bytes
+returns-clause-bytes g c h =
+    let t = c.args.self.now.table in
+    let plan : IsPlan t c.args.who c.args.now c.args.ask.now (Some c.in-Some-2.planned) c.plan.new.row.items = subst (λ (p : Option Planned). IsPlan t c.args.who c.args.now c.args.ask.now p c.plan.new.row.items) c.in-Some-2.is c.in_ok-planned.ensures.plan in
+    subst (λ (told : Option Told). IfOk c.carry_out-2.result (λ (answer : Answer). (url : List ℕ) (opening : DeskTable) (start : ℕ) (given : ℕ → List ℕ) → IsWorking g.D.Disk.moment g.D.Disk.seen g.D.Disk.past url opening start given c.args.self.now → HasBytes given told answer))
+    (ap (λ (s : Step). s.told) plan.step) (c.carry_out-2.ensures.bytes h)
+
+pub returns-clause-sum : goal.returns-clause-sum
+returns-clause-sum g c =
+    let t = c.args.self.now.table in
+    let plan : IsPlan t c.args.who c.args.now c.args.ask.now (Some c.in-Some-2.planned) c.plan.new.row.items = subst (λ (p : Option Planned). IsPlan t c.args.who c.args.now c.args.ask.now p c.plan.new.row.items) c.in-Some-2.is c.in_ok-planned.ensures.plan in
+    subst (λ (told : Option Told). IfOk c.carry_out-2.result (HasSum told)) (ap (λ (s : Step). s.told) plan.step) c.carry_out-2.ensures.sum
+
+pub returns-in_default-2-clause-bytes : goal.returns-in_default-2-clause-bytes
+returns-in_default-2-clause-bytes g c h url opening start given is body wants =
+    let t = c.args.self.now.table in
+    let plan : IsPlan t c.args.who c.args.now c.args.ask.now None c.plan.new.row.items = subst (λ (p : Option Planned). IsPlan t c.args.who c.args.now c.args.ask.now p c.plan.new.row.items) c.in_default-2.is c.in_ok-planned.ensures.plan in
+    let no : None ≡ Some body = ap wanted (sym plan.0) ∙ wants in cc no
+
+pub returns-in_default-2-clause-sum : goal.returns-in_default-2-clause-sum
+returns-in_default-2-clause-sum g c body wants =
+    let t = c.args.self.now.table in
+    let plan : IsPlan t c.args.who c.args.now c.args.ask.now None c.plan.new.row.items = subst (λ (p : Option Planned). IsPlan t c.args.who c.args.now c.args.ask.now p c.plan.new.row.items) c.in_default-2.is c.in_ok-planned.ensures.plan in
+    let no : None ≡ Some body = ap wanted (sym plan.0) ∙ wants in cc no
