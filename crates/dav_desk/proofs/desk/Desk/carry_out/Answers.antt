@@ -1,4 +1,4 @@
-use Rattle.std.proofs.Common.{rules, ◌≡◌, ◌≢◌, Result, ℕ, ◌<◌, arith, List, length, Option, Some, sym, ◌∙◌, ap, subst}
+use Rattle.std.proofs.Common.{rules, ◌≡◌, ◌≢◌, Result, ℕ, ◌<◌, arith, List, length, Option, Some, None, sym, ◌∙◌, ap, subst}
 use Rattle.std.specs.Prelude.{IfErr, vec_capacity}
 use Rattle.std.proofs.lemmas.Bool.{false≢true}
 use Rattle.std.proofs.lemmas.Result.{err_from_is_err_and}
@@ -134,7 +134,7 @@ enter-requires-clause-fresh_apart g c id new =
 
 pub enter-requires-clause-freed_apart : goal.enter-requires-clause-freed_apart
 enter-requires-clause-freed_apart g c =
-    freed_begin c.args.self.now.table c.args.planned.made.step.now (deed_of c.args.self.now.table c.args.ask.now) c.as_slice.result.now c.requires.sound c.requires.plan.is_deed (c.as_slice.ensures.value ∙ c.requires.plan.released)
+    freed_begin c.args.self.now.table c.args.planned.made.step.now (deed_of c.args.self.now.table c.args.ask.now) c.as_slice.result.now c.requires.sound (c.as_slice.ensures.value ∙ c.requires.plan.released)
 
 pub enter-requires-clause-room : goal.enter-requires-clause-room
 enter-requires-clause-room g c =
