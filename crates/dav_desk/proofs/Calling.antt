@@ -36,7 +36,9 @@ use Rattle.dav_desk.specs.Called.{told_calls, put_calls, calls_by, IsCounted, Wa
 use Rattle.dav_desk.specs.Calls.{row_calls}
 use Rattle.dav_desk.specs.Changed.{fresh_by, freed_by}
 use Rattle.dav_desk.specs.Entry.{bytes_in, file_in}
-use Rattle.dav_desk.specs.Verdict.{step_of}
+use Rattle.dav_deeds.specs.declared.answer.Answer.{Answer}
+use Rattle.dav_desk.specs.Ended.{LivesOn, IsUncalled, HasCause, IsAsked}
+use Rattle.dav_desk.specs.Verdict.{Verdict, Went, Stopped, Starved, step_of}
 use Rattle.dav_desk.specs.declared.desk.Desk.{Desk}
 use Rattle.dav_desk.proofs.Asking.{stamped_is}
 use Rattle.dav_desk.proofs.Entering.{text_wide}
@@ -247,3 +249,25 @@ pub by_step : {D : Type 0} (honest : D → Type 0) (moment : D → ℕ) (seen : 
     → who_now ≡ who → then ≡ now → IsCalled honest moment seen past who_now then ask old new → IsCalled honest moment seen past who now ask old new
 by_step {D} honest moment seen past who who_now now then ask old new same_who same_now is =
     subst (λ (n : ℕ). IsCalled honest moment seen past who n ask old new) same_now (subst (λ (w : Who). IsCalled honest moment seen past w then ask old new) same_who is)
+
+-- what the desk was asked, the same
+pub asked_spare : {D : Type 0} (honest : D → Type 0) (moment : D → ℕ) (seen : D → ℕ → List ℕ) (faults : D → ℕ) (who who_now : Who) (now then : ℕ) (ask : Ask) (old new : Desk D) (spare : Option Spare) (result : Result Answer DeskFault)
+    → who_now ≡ who → then ≡ now → old.recorder.dead ≡ None → IsAsked honest moment seen faults who_now then ask (record old { spare = spare }) new result → IsAsked honest moment seen faults who now ask old new result
+asked_spare {D} honest moment seen faults who who_now now then ask old new spare result same_who same_now alive is =
+    subst (λ (n : ℕ). IsAsked honest moment seen faults who n ask old new result) same_now
+    (subst (λ (w : Who). IsAsked honest moment seen faults w then ask old new result) same_who
+    (record { verdict = is.verdict; bytes = is.bytes; answer = is.answer; table = is.table; steps = is.steps; cause = caused is.verdict is.cause }))
+  where
+    lives : LivesOn (record old { spare = spare }) new → LivesOn old new
+    lives l = record { alive = l.alive; dead = l.dead; under = l.under }
+
+    uncalled_too : IsUncalled (record old { spare = spare }) new → IsUncalled old new
+    uncalled_too u = record { lives = lives u.lives; disk = u.disk }
+
+    caused : (v : Verdict) → HasCause honest moment seen faults who_now then ask v (record old { spare = spare }) new → HasCause honest moment seen faults who_now then ask v old new
+    caused Went cause = (lives cause.0, λ none. uncalled_too (cause.1 none))
+    caused (Stopped fault) cause = elim cause [
+      | inl was ↦ let no : Some fault ≡ None = sym was.dead ∙ alive in cc no
+      | inr died ↦ inr (record { alive = died.alive; dead = died.dead; ends = died.ends; cause = died.cause; under = died.under })
+    ]
+    caused Starved cause = uncalled_too cause

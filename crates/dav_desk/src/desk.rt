@@ -101,6 +101,7 @@ impl<D: Disk> Desk<D> {
             → MatchResult result (λ desk. D.honest desk.recorder.disk → EachImage (D.past desk.recorder.disk) (D.moment disk) (D.moment desk.recorder.disk) (Recovers url.now table given))
             (λ both. D.honest both.0 → EachImage (D.past both.0) (D.moment disk) (D.moment both.0) (Recovers url.now table given)) }
         ensures opened { IfOk result (λ desk. D.honest desk.recorder.disk → (length (D.seen disk 0) < 1099511627776) × IsIndexOf url.now desk.table.index (D.seen disk 0)) }
+        ensures indexed { IfOk result (λ desk. (file : List ℕ) × IsIndexOf url.now desk.table.index file) }
         ensures fault { IfErr result (λ both. IsStartFault (D.honest both.0) url.now (D.seen disk 0) (D.faults disk) (D.faults both.0) both.1) }
         ensures fresh { IfOk result (λ desk. (desk.table ≡ started desk.table.index) × IsSound desk.table × (desk.recorder.trace.steps.items ≡ [])
             × (desk.recorder.under ≡ None) × (desk.recorder.dead ≡ None)) }

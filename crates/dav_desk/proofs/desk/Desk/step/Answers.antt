@@ -24,7 +24,7 @@ use Rattle.dav_deeds.specs.declared.deed.Step.{Step}
 use Rattle.dav_desk.specs.Changed.{fresh_by, freed_by, IsPut}
 use Rattle.dav_desk.specs.Entry.{bytes_in}
 use Rattle.dav_desk.proofs.Changing.{idle_frees, stored_nothing, empty_nothing, ok_map, on_ok_map}
-use Rattle.dav_desk.proofs.Calling.{uncalled, spare_taken, by_step}
+use Rattle.dav_desk.proofs.Calling.{asked_spare, uncalled, spare_taken, by_step}
 use Rattle.dav_desk.proofs.desk.Desk.step.Goals as goal
 
 pub returns-in-Some-clause-asked : goal.returns-in-Some-clause-asked
@@ -147,3 +147,9 @@ returns-clause-called g c =
     let plan : IsPlan t c.args.who c.args.now c.args.ask.now (Some c.in-Some-2.planned) c.plan.new.row.items = subst (λ (p : Option Planned). IsPlan t c.args.who c.args.now c.args.ask.now p c.plan.new.row.items) c.in-Some-2.is c.in_ok-planned.ensures.plan in
     by_step g.D.Disk.honest g.D.Disk.moment g.D.Disk.seen g.D.Disk.past c.args.who c.in-Some-2.planned.made.step.who c.args.now c.in-Some-2.planned.made.step.now c.args.ask.now c.args.self.now c.carry_out-2.new.self
     (ap (λ (s : Step). s.who) plan.step) (ap (λ (s : Step). s.now) plan.step) c.carry_out-2.ensures.called
+
+pub returns-then-ends_job-clause-asked : goal.returns-then-ends_job-clause-asked
+returns-then-ends_job-clause-asked g c =
+    let step = c.plan_end-planned.result.made.step in
+    asked_spare g.D.Disk.honest g.D.Disk.moment g.D.Disk.seen g.D.Disk.faults c.args.who step.who c.args.now step.now c.args.ask.now c.args.self.now c.carry_out.new.self c.take.new.self c.carry_out.result
+    (ap (λ (s : Step). s.who) c.plan_end-planned.ensures.step) (ap (λ (s : Step). s.now) c.plan_end-planned.ensures.step) (sym c.in_default.ensures) c.carry_out.ensures.asked
