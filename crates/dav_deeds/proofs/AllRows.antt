@@ -1,5 +1,6 @@
 -- The laws on deeds, each from what is owed of each deed.
-use Rattle.std.proofs.Common.{◌≡◌, ◌≢◌, ◌⊎◌, inl, inr, ℕ, suc, ◌+◌, ◌≤◌, Bool, true, false, List, [], ◌∷◌, ◌++◌, length, Option, Some, None, nat_eq, Contains, refl, sym, ◌∙◌, ap, subst, arith, append_assoc, append-nil}
+use Rattle.std.proofs.Common.{◌≡◌, ◌≢◌, ◌⊎◌, inl, inr, ℕ, suc, ◌+◌, ◌<◌, ◌≤◌, max, Bool, true, false, List, [], ◌∷◌, ◌++◌, length, Option, Some, None, nat_eq, Contains, refl, sym, ◌∙◌, ap, subst, arith, append_assoc, append-nil}
+use Rattle.std.proofs.Math.Nat.{le-max_right}
 use Rattle.sha2.proofs.Facts256.{length-sha256}
 use Rattle.dav_text.specs.Path.{PathParts}
 use Rattle.dav_store.specs.Body.{id_of}
@@ -22,7 +23,7 @@ use Rattle.dav_deeds.specs.declared.fault.DeskFault.{DeskFault}
 use Rattle.dav_deeds.specs.declared.spare.Spare.{Spare}
 use Rattle.dav_deeds.specs.Answers.{Kind, Tells, Gives, Idles, Ends, kind_told, job_by, wanted}
 use Rattle.dav_deeds.specs.DeskTable.{DeskTable}
-use Rattle.dav_deeds.specs.Effects.{Effect, effect_of, after, record_of, released_of, mark_of, told_of, taken, changed, is_flying}
+use Rattle.dav_deeds.specs.Effects.{Effect, effect_of, effect_unless, after, record_of, released_of, mark_of, told_of, taken, changed, is_flying}
 use Rattle.dav_deeds.specs.Fate.{Story, IsLostAs, IsOfTable, IsTaken}
 use Rattle.dav_deeds.specs.Legal.{IsAsk, IsDeed, IsBodyUnless, IsOfShell, body_unless, bytes_in, deed_of, new_body, table_after, Legal}
 use Rattle.dav_deeds.specs.Made.{AreRecords}
@@ -94,6 +95,27 @@ body_made t asks.Take id some = cc some
 body_made t (asks.Settle job done) id some = cc some
 body_made t asks.Stop id some = cc some
 
+-- and its file is below the next one afterwards
+closed_next : (t : DeskTable) (now : ℕ) (path : PathParts) (bytes : List ℕ) → store_refusal t.index path (length bytes) ≡ None → t.index.next_file < (after t now (deed_of t (asks.Store path bytes))).index.next_file
+closed_next t now path bytes is =
+    subst (λ (o : Option DeskFault). t.index.next_file < (changed t (effect_unless (store_refusal t.index path (length bytes)) t now (Store path (length bytes) (body_unless o id)))).index.next_file) (sym is)
+    (subst (λ (o : Option DeskFault). t.index.next_file < (changed t (effect_unless o t now (Store path (length bytes) (Some id)))).index.next_file) (sym is)
+    (let above : t.index.next_file + 1 ≤ max t.index.next_file (t.index.next_file + 1) = le-max_right t.index.next_file (t.index.next_file + 1) in omega (arith, above)))
+  where
+    id : BodyId
+    id = id_of t.index.next_file bytes
+
+pub body_next : (t : DeskTable) (now : ℕ) (ask : Ask) (id : BodyId) → new_body (deed_of t ask) ≡ Some id → t.index.next_file < (after t now (deed_of t ask)).index.next_file
+body_next t now (asks.Store path bytes) id some = by (store_refusal t.index path (length bytes)) refl some
+  where
+    by : (r : Option DeskFault) → store_refusal t.index path (length bytes) ≡ r → body_unless r (id_of t.index.next_file bytes) ≡ Some id → t.index.next_file < (after t now (deed_of t (asks.Store path bytes))).index.next_file
+    by None free is = closed_next t now path bytes free
+    by (Some fault) free is = cc is
+body_next t now (asks.Forget path locks below) id some = cc some
+body_next t now asks.Take id some = cc some
+body_next t now (asks.Settle job done) id some = cc some
+body_next t now asks.Stop id some = cc some
+
 module _ (t : DeskTable) (s : IsSound t) where
   -- each deed keeps a table sound
   pub after_sound : (now : ℕ) (deed : Deed) → IsDeed t deed → IsSound (after t now deed)
@@ -147,7 +169,11 @@ named t s now deed is id there =
 
 -- the body whose bytes are told is one of the table
 pub told_named : (t : DeskTable) (now : ℕ) (deed : Deed) (body : BodyId) → wanted (told_of t now deed) ≡ Some body → Contains (bodies_of t.index) body
-told_named t now deed body is = (row t now deed).named body is
+told_named t now deed body is = ((row t now deed).named body is).0
+
+-- and then nothing is put on record
+pub told_quiet : (t : DeskTable) (now : ℕ) (deed : Deed) (body : BodyId) → wanted (told_of t now deed) ≡ Some body → record_of t now deed ≡ None
+told_quiet t now deed body is = ((row t now deed).named body is).1
 
 -- what finds nothing to take changes nothing
 pub idle_is : (t : DeskTable) (now : ℕ) (deed : Deed) → kind_told (told_of t now deed) ≡ Idles → IsIdle t deed (effect_of t now deed)

@@ -8,7 +8,10 @@ use Rattle.dav_index.specs.Items.{same_path}
 use Rattle.dav_index.specs.Tables.{queued_at}
 use Rattle.dav_index.specs.Bounds.{bodies_of}
 use Rattle.dav_index.specs.declared.lost.LostItem.{LostItem}
+use Rattle.dav_deeds.specs.declared.answer.Answer.{Answer}
+use Rattle.dav_deeds.specs.declared.answer.Answer.TheVariants as answers
 use Rattle.dav_deeds.specs.declared.answer.Flight.{Flight}
+use Rattle.dav_deeds.specs.declared.answer.Job.{Job}
 use Rattle.dav_deeds.specs.declared.answer.Told.{Told}
 use Rattle.dav_deeds.specs.declared.answer.Told.TheVariants.{Closed, Forgot, Took, Idle, Settled, Stopping}
 use Rattle.dav_deeds.specs.declared.ask.Done.TheVariants as ends
@@ -18,7 +21,7 @@ use Rattle.dav_deeds.specs.declared.deed.Mark.{Mark}
 use Rattle.dav_deeds.specs.declared.deed.Mark.TheVariants as marks
 use Rattle.dav_deeds.specs.declared.fault.DeskFault.{DeskFault}
 use Rattle.dav_deeds.specs.declared.spare.Spare.{Spare}
-use Rattle.dav_deeds.specs.Answers.{Kind, Tells, Gives, Idles, Ends, answer_of, bytes_told, kind_told, job_by, wanted}
+use Rattle.dav_deeds.specs.Answers.{Kind, Tells, Gives, Idles, Ends, answer_of, bytes_told, job_in, job_of_kind, kind_of, kind_told, job_by, wanted}
 use Rattle.dav_deeds.specs.DeskTable.{DeskTable}
 use Rattle.dav_deeds.specs.Effects.{Effect, quiet, changed, taken}
 use Rattle.dav_deeds.specs.Fate.{Fate, Story, tell, IsLostAs}
@@ -64,8 +67,8 @@ pub record IsRow (t : DeskTable) (now : ℕ) (deed : Deed) (e : Effect) : Type 1
   pub begins : (s : IsSound t) → Begins t s e
   -- the new body is in the next file, and is put on record
   pub new : IsDeed t deed → (id : BodyId) → new_body deed ≡ Some id → (id.file ≡ t.index.next_file) × (e.on_record ≢ None)
-  -- the body whose bytes are told is one of the table
-  pub named : (body : BodyId) → wanted e.told ≡ Some body → Contains (bodies_of t.index) body
+  -- the body whose bytes are told is one of the table, and then nothing is put on record
+  pub named : (body : BodyId) → wanted e.told ≡ Some body → Contains (bodies_of t.index) body × (e.on_record ≡ None)
   -- the job in flight goes by the answer, and so does the memory for its end
   pub job : e.job ≡ job_by t.job (kind_told e.told)
   pub given : (flight : Flight) → kind_told e.told ≡ Gives flight → IsGiven t now deed e.told flight
@@ -133,3 +136,20 @@ wanted_told (Took flight) bytes body is = refl
 wanted_told Idle bytes body is = cc is
 wanted_told (Settled fated) bytes body is = cc is
 wanted_told Stopping bytes body is = cc is
+
+-- the job that an answer gives
+pub job_answered : (told : Told) (bytes : List ℕ) → job_in (answer_of told bytes) ≡ job_of_kind (kind_of told) bytes
+job_answered (Closed b) bytes = refl
+job_answered Forgot bytes = refl
+job_answered (Took flight) bytes = refl
+job_answered Idle bytes = refl
+job_answered (Settled fated) bytes = refl
+job_answered Stopping bytes = refl
+
+pub answer_given : (answer : Answer) (job : Job) → job_in answer ≡ Some job → answer ≡ answers.Took job
+answer_given (answers.Closed b) job is = cc is
+answer_given answers.Forgot job is = cc is
+answer_given (answers.Took given) job is = let same : given ≡ job = cc is in ap (λ (j : Job). answers.Took j) same
+answer_given answers.Idle job is = cc is
+answer_given (answers.Settled fated) job is = cc is
+answer_given answers.Stopping job is = cc is

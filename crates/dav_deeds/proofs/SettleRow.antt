@@ -66,7 +66,7 @@ settle_row t now number done None at = record {
       settle_fits Went p t last fate count fit t.job number now done refl (λ flight b seen is flies on file. may flight b number seen (ap (Settle number) is) at flies on file);
 }
   where
-    wants : (job : Option Flight) (b : BodyId) → wanted (settle_effect t job now done).told ≡ Some b → Contains (bodies_of t.index) b
+    wants : (job : Option Flight) (b : BodyId) → wanted (settle_effect t job now done).told ≡ Some b → Contains (bodies_of t.index) b × ((settle_effect t job now done).on_record ≡ None)
     wants None b some = cc some
     wants (Some flight) b some = cc some
 

@@ -61,7 +61,7 @@ store_row t now path len body None at = record {
     new_of None is id some = absurd is
     new_of (Some b) is id some = let same : b ≡ id = cc some in (ap (λ (x : BodyId). x.file) (sym same) ∙ is.0, λ none. cc none)
 
-    wants : (o : Option BodyId) (b : BodyId) → wanted (store_effect t path now o).told ≡ Some b → Contains (bodies_of t.index) b
+    wants : (o : Option BodyId) (b : BodyId) → wanted (store_effect t path now o).told ≡ Some b → Contains (bodies_of t.index) b × ((store_effect t path now o).on_record ≡ None)
     wants None b some = cc some
     wants (Some c) b some = cc some
 

@@ -68,9 +68,9 @@ take_row t now o at = record {
     none None = tt
     none (Some flight) = tt
 
-    wants : (o : Option Flight) → taken t now ≡ o → (body : BodyId) → wanted (take_effect t o).told ≡ Some body → Contains (bodies_of t.index) body
+    wants : (o : Option Flight) → taken t now ≡ o → (body : BodyId) → wanted (take_effect t o).told ≡ Some body → Contains (bodies_of t.index) body × ((take_effect t o).on_record ≡ None)
     wants None at body some = cc some
-    wants (Some flight) at body some = let same : flight.body ≡ body = cc some in subst (Contains (bodies_of t.index)) same (taken_named t now flight at)
+    wants (Some flight) at body some = let same : flight.body ≡ body = cc some in (subst (Contains (bodies_of t.index)) same (taken_named t now flight at), refl)
 
     job_of : (o : Option Flight) → (take_effect t o).job ≡ job_by t.job (kind_told (take_effect t o).told)
     job_of None = refl

@@ -3,6 +3,7 @@ use Rattle.std.specs.Prelude.{ℕ, Bool, true, false, List, [], Option, Some, No
 use Rattle.dav_store.specs.declared.body_id.BodyId.{BodyId}
 use Rattle.dav_deeds.specs.declared.answer.Answer.{Answer}
 use Rattle.dav_deeds.specs.declared.answer.Answer.TheVariants as answers
+use Rattle.dav_deeds.specs.declared.answer.Fated.{Fated}
 use Rattle.dav_deeds.specs.declared.answer.Job.{Job}
 use Rattle.dav_deeds.specs.declared.answer.Flight.{Flight}
 use Rattle.dav_deeds.specs.declared.answer.Told.{Told}
@@ -25,6 +26,15 @@ answer_of Stopping bytes = answers.Stopping
 abbrev pub bytes_told : Answer → List ℕ
 bytes_told (answers.Took job) = job.bytes
 bytes_told answer = []
+
+-- the job that an answer gives, and what it says became of one
+abbrev pub job_in : Answer → Option Job
+job_in (answers.Took job) = Some job
+job_in answer = None
+
+abbrev pub fate_in : Answer → Option Fated
+fate_in (answers.Settled fated) = Some fated
+fate_in answer = None
 
 -- What an answer is to the job in flight and to the trace: it gives the next job; it says that there is none, and is no step then;
 -- it is the end of the job; or it is none of these.
@@ -65,6 +75,13 @@ job_by job Tells = job
 job_by job (Gives flight) = Some flight
 job_by job Idles = job
 job_by job Ends = None
+
+-- the job with its bytes, where one is given
+abbrev pub job_of_kind : Kind → List ℕ → Option Job
+job_of_kind Tells bytes = None
+job_of_kind (Gives flight) bytes = Some (job_of flight bytes)
+job_of_kind Idles bytes = None
+job_of_kind Ends bytes = None
 
 -- the body whose bytes belong to the answer
 abbrev pub body_wanted : Told → Option BodyId

@@ -51,6 +51,11 @@ fate_settled path story (ends.Sent seen) marks.Plain = if is_about path story st
 fate_settled path story done (marks.LostAs number) = if is_about path story story.job then Lost number else story.fate
 fate_settled path story done mark = story.fate
 
+-- whether a deed with this mark says that the bytes of the job in flight were sent
+abbrev pub tells_sent : Deed → Mark → Bool
+tells_sent (deeds.Settle number (ends.Sent seen)) marks.Plain = true
+tells_sent deed mark = false
+
 -- the story after a deed with this mark and this answer
 abbrev pub tell : PathParts → Story → Deed → Mark → Option Told → Story
 tell path story (deeds.Store closed len body) (marks.Body id) told =

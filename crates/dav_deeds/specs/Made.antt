@@ -25,13 +25,13 @@ use Rattle.dav_deeds.specs.Effects.{Wait, Effect, is_flying, waiting_at, changed
 use Rattle.dav_deeds.specs.Legal.{deed_of}
 
 -- the answer, or why the deed was refused
+abbrev pub fault_by : Mark → DeskFault
+fault_by (marks.Refused fault) = fault
+fault_by mark = Memory
+
 abbrev pub answer_by : Mark → Option Told → Result Told DeskFault
 answer_by mark (Some told) = Ok told
-answer_by (marks.Refused fault) None = Err fault
-answer_by marks.Plain None = Err Memory
-answer_by (marks.Body body) None = Err Memory
-answer_by (marks.Job number) None = Err Memory
-answer_by (marks.LostAs number) None = Err Memory
+answer_by mark None = Err (fault_by mark)
 
 -- the row of a record, and no bytes where there is none
 abbrev pub row_of : Option Record → List ℕ

@@ -105,6 +105,31 @@ impl Flight {
     }
 }
 
+impl Answer {
+    ghost use Rattle.std.specs.Prelude.{◌≡◌};
+    ghost use Rattle.dav_deeds.specs.Answers.{fate_in, job_in};
+
+    /// The job that it gives.
+    pub fn job(self) -> Option<Job>
+        ensures { result ≡ job_in self }
+    {
+        match self {
+            Answer::Took(job) => Some(job),
+            _ => None,
+        }
+    }
+
+    /// What it says became of a job.
+    pub fn fate(&self) -> Option<Fated>
+        ensures { result ≡ fate_in self.now }
+    {
+        match self {
+            Answer::Settled(fated) => Some(*fated),
+            _ => None,
+        }
+    }
+}
+
 impl Told {
     ghost use Rattle.std.specs.Prelude.{◌≡◌, IfOk};
     ghost use Rattle.dav_deeds.specs.Answers.{answer_of, body_wanted, is_end as is_end_lem, kind_of};

@@ -6,3 +6,4 @@ pub mod Carrying
 pub mod Changing
 pub mod Keeping
 pub mod Rooming
+pub mod Calling

@@ -4,4 +4,6 @@ pub mod Ended
 pub mod Working
 pub mod Entry
 pub mod Changed
+pub mod Calls
+pub mod Called
 pub mod Room

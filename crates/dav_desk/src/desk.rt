@@ -89,6 +89,7 @@ pub struct Desk<D> {
 impl<D: Disk> Desk<D> {
     ghost use Rattle.dav_desk.specs.Ended.{IsAsked};
     ghost use Rattle.dav_recorder.specs.Files.{ChangesOnly};
+    ghost use Rattle.dav_desk.specs.Called.{IsCalled};
     ghost use Rattle.dav_desk.specs.Changed.{ChangesAsked, IsPut};
     ghost use Rattle.dav_desk.specs.Room.{IsHeldFor};
     ghost use Rattle.dav_desk.specs.Working.{IsReadied, IsWorking, IsStopped, AreGiven, HasBytes, HasSum};
@@ -105,12 +106,14 @@ impl<D: Disk> Desk<D> {
             → MatchResult result (λ desk. D.honest desk.recorder.disk → EachImage (D.past desk.recorder.disk) (D.moment disk) (D.moment desk.recorder.disk) (Recovers url.now table given))
             (λ both. D.honest both.0 → EachImage (D.past both.0) (D.moment disk) (D.moment both.0) (Recovers url.now table given)) }
         ensures opened { IfOk result (λ desk. D.honest desk.recorder.disk → (length (D.seen disk 0) < 1099511627776) × IsIndexOf url.now desk.table.index (D.seen disk 0)) }
+        ensures indexed { IfOk result (λ desk. (file : List ℕ) × IsIndexOf url.now desk.table.index file) }
         ensures fault { IfErr result (λ both. IsStartFault (D.honest both.0) url.now (D.seen disk 0) (D.faults disk) (D.faults both.0) both.1) }
         ensures fresh { IfOk result (λ desk. (desk.table ≡ started desk.table.index) × IsSound desk.table × (desk.recorder.trace.steps.items ≡ [])
             × (desk.recorder.under ≡ None) × (desk.recorder.dead ≡ None)) }
         ensures readied { IfOk result (λ desk. IsReadied D.honest D.moment D.seen D.past desk) }
         ensures changes { MatchResult result (λ desk. D.honest desk.recorder.disk → ChangesOnly D.moment D.seen D.past (λ f. f ≡ 0) disk desk.recorder.disk) (λ both. D.honest both.0 → ChangesOnly D.moment D.seen D.past (λ f. f ≡ 0) disk both.0) }
         ensures keeps { MatchResult result (λ desk. D.honest desk.recorder.disk → D.honest disk) (λ both. D.honest both.0 → D.honest disk) }
+        ensures moments { MatchResult result (λ desk. D.moment disk ≤ D.moment desk.recorder.disk) (λ both. D.moment disk ≤ D.moment both.0) }
         ensures faults { MatchResult result (λ desk. D.faults disk ≤ D.faults desk.recorder.disk) (λ both. D.faults disk ≤ D.faults both.0) }
     {
         match Recorder::start(alloc, disk, url) {
@@ -128,7 +131,8 @@ impl<D: Disk> Desk<D> {
     /// on the disk, or in neither: a stop at any moment leaves the table from before or from after it. Then the step stands in
     /// the trace, a refused one too; a take that finds nothing is no step. Answers `Disk` where the disk failed, and `Damaged`
     /// where the bytes of a body that is told are not those that were kept. The desk is dead then, answers the same again, and does nothing
-    /// any more. Answers `Memory` only before the first device call, and nothing is changed then; never to the end of the job in
+    /// any more. A step's moment is the count of the disk's calls at its end, and the step under way is this one exactly where the
+    /// disk failed once the writing of its record had begun. Answers `Memory` only before the first device call, and nothing is changed then; never to the end of the job in
     /// flight, which uses the memory that was taken with the job.
     pub fn step(&mut self, who: Who, ask: &Ask, now: u64) -> Result<Answer, DeskFault>
         requires ask { IsAsk ask.now }
@@ -146,6 +150,7 @@ impl<D: Disk> Desk<D> {
         ensures changes { D.honest self.new.recorder.disk → ChangesAsked D.moment D.seen D.past now ask.now self.old self.new }
         ensures put { D.honest self.new.recorder.disk → OnOk result (IsPut D.moment D.seen D.past now ask.now self.old self.new) }
         ensures ends { ends_job self.old.table.job ask.now ≡ true → IfErr result (λ e. e ≢ MemoryFault) }
+        ensures called { IsCalled D.honest D.moment D.seen D.past who now ask.now self.old self.new }
         ensures keeps { D.honest self.new.recorder.disk → D.honest self.old.recorder.disk }
         ensures faults { D.faults self.old.recorder.disk ≤ D.faults self.new.recorder.disk }
     {
@@ -196,6 +201,7 @@ impl<D: Disk> Desk<D> {
         ensures changes { D.honest self.new.recorder.disk → ChangesAsked D.moment D.seen D.past planned.made.step.now ask.now self.old self.new }
         ensures put { D.honest self.new.recorder.disk → OnOk result (IsPut D.moment D.seen D.past planned.made.step.now ask.now self.old self.new) }
         ensures ends { kind_told planned.made.step.told ≡ Ends → IfErr result (λ e. e ≢ MemoryFault) }
+        ensures called { IsCalled D.honest D.moment D.seen D.past planned.made.step.who planned.made.step.now ask.now self.old self.new }
         ensures keeps { D.honest self.new.recorder.disk → D.honest self.old.recorder.disk }
         ensures faults { D.faults self.old.recorder.disk ≤ D.faults self.new.recorder.disk }
     {

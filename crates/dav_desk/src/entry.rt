@@ -1,6 +1,7 @@
 ghost use Rattle.std.specs.Prelude.{◌≡◌, ◌≢◌, ◌⊎◌, ℕ, ◌<◌, ◌≤◌, List, [], ◌∷◌, ◌++◌, length, All, Contains, IfOk, IfErr, OnOk, OnErr, Option, None, Some, vec_capacity};
 ghost use Rattle.sha2.specs.Sha256.{sha256};
 ghost use Rattle.dav_machine.specs.Log.{Rose};
+ghost use Rattle.dav_store.specs.Counts.{IsCountedAs};
 ghost use Rattle.dav_store.specs.Rows.{IsPayload, IsReady};
 ghost use Rattle.dav_store.specs.View.{journal_end};
 ghost use Rattle.dav_store.specs.declared.body_id.BodyId.{BodyId};
@@ -9,10 +10,13 @@ ghost use Rattle.dav_deeds.specs.Answers.{wanted};
 ghost use Rattle.dav_deeds.specs.DeskTable.{DeskTable};
 ghost use Rattle.dav_deeds.specs.Legal.{new_body, table_after};
 ghost use Rattle.dav_deeds.specs.declared.fault.DeskFault.TheVariants.{Disk as DiskFault, Memory as MemoryFault};
+ghost use Rattle.dav_recorder.specs.Calls.{IsUnder};
 ghost use Rattle.dav_recorder.specs.Files.{ChangesOnly, AreEmpty, IsStored};
 ghost use Rattle.dav_recorder.specs.Planned.{kept_table};
 ghost use Rattle.dav_recorder.specs.Stands.{IsWritten};
 ghost use Rattle.dav_recorder.specs.Survives.{IsLive, IsLeft};
+ghost use Rattle.dav_desk.specs.Called.{told_calls};
+ghost use Rattle.dav_desk.specs.Calls.{row_calls};
 ghost use Rattle.dav_desk.specs.Entry.{file_in, IsEntry, IsMissing};
 
 use dav_deeds::{Deed, DeskFault, Step, Told};
@@ -51,6 +55,7 @@ pub(crate) fn told_bytes<D: Disk>(
     ensures ready { D.honest recorder.new.disk → IsReady (journal_end recorder.old.journal) (D.seen recorder.old.disk 0) (D.past recorder.old.disk (D.moment recorder.old.disk) 0)
         → IsReady (journal_end recorder.new.journal) (D.seen recorder.new.disk 0) (D.past recorder.new.disk (D.moment recorder.new.disk) 0) }
     ensures changes { D.honest recorder.new.disk → ChangesOnly D.moment D.seen D.past (λ _. ⊥) recorder.old.disk recorder.new.disk }
+    ensures counts { IsCountedAs (told_calls told.now) (D.moment recorder.old.disk) (D.moment recorder.new.disk) result }
     ensures keeps { D.honest recorder.new.disk → D.honest recorder.old.disk }
     ensures faults { D.faults recorder.old.disk ≤ D.faults recorder.new.disk }
 {
@@ -94,6 +99,9 @@ pub(crate) fn enter<D: Disk>(
     ensures changes { D.honest recorder.new.disk → ChangesOnly D.moment D.seen D.past (IsWritten (file_in (new_body step.deed)) freed.now) recorder.old.disk recorder.new.disk }
     ensures stored { D.honest recorder.new.disk → OnOk result (row.now ≢ [] → IsStored (file_in (new_body step.deed)) bytes.now freed.now (D.seen recorder.new.disk) (D.past recorder.new.disk (D.moment recorder.new.disk))) }
     ensures emptied { D.honest recorder.new.disk → OnOk result (AreEmpty freed.now (D.seen recorder.new.disk) (D.past recorder.new.disk (D.moment recorder.new.disk))) }
+    ensures counts { IsCountedAs (row_calls row.now (file_in (new_body step.deed)) freed.now) (D.moment recorder.old.disk) (D.moment recorder.new.disk) result }
+    ensures quiet { OnErr result (row.now ≡ [] → recorder.new.under ≡ recorder.old.under) }
+    ensures under { OnErr result (row.now ≢ [] → IsUnder D.honest D.moment D.seen D.past (file_in (new_body step.deed)) bytes.now freed.now step recorder.old.disk recorder.new.disk recorder.old.under recorder.new.under) }
     ensures capacity { vec_capacity recorder.old.trace.steps ≤ vec_capacity recorder.new.trace.steps }
     ensures keeps { D.honest recorder.new.disk → D.honest recorder.old.disk }
     ensures faults { D.faults recorder.old.disk ≤ D.faults recorder.new.disk }

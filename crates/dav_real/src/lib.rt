@@ -4,6 +4,7 @@
 #[cfg(test)]
 mod device_tests;
 mod folder_calls;
+mod open_files;
 mod reader_source;
 mod steady;
 mod tcp_wire;

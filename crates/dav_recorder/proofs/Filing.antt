@@ -43,6 +43,13 @@ file_some : (fresh : Option ℕ) (f : ℕ) → IsFile fresh f → fresh ≡ Some
 file_some None f is = absurd is
 file_some (Some file) f is = ap (λ (n : ℕ). Some n) (sym is)
 
+-- a new body while a row is added
+pub stored_row : {from to : ℕ} {a b : ℕ → ℕ → Doubt} (fresh : Option ℕ) (bytes freed : List ℕ) (seen now : ℕ → List ℕ) → ((f : ℕ) → fresh ≡ Some f → 2 ≤ f) → IsStored fresh bytes [] seen (a from)
+    → Touches (λ f. f ≡ 0) from to a b → OthersStay 0 seen now → IsStored fresh bytes freed now (b to)
+stored_row fresh bytes freed seen now apart stored row others f is out =
+    let begins : 2 ≤ f = apart f (file_some fresh f is) in
+    holds_still seen now bytes f row others (λ first. absurd (omega (arith, begins, first))) (stored f is (λ none. absurd (omega (arith, none.1))))
+
 -- a new body while a row is added and files are emptied
 pub stored_after : {from mid to : ℕ} {a b c : ℕ → ℕ → Doubt} (fresh : Option ℕ) (bytes freed : List ℕ) (seen then now : ℕ → List ℕ) → ((f : ℕ) → fresh ≡ Some f → 2 ≤ f) → IsStored fresh bytes [] seen (a from)
     → Touches (λ f. f ≡ 0) from mid a b → OthersStay 0 seen then → Touches (Contains freed) mid to b c → RestStays (Contains freed) then now → IsStored fresh bytes freed now (c to)

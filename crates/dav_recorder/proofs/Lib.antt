@@ -4,3 +4,4 @@ pub mod StartLemmas
 pub mod DueLemmas
 pub mod LiveLemmas
 pub mod PlanLemmas
+pub mod IndexLemmas

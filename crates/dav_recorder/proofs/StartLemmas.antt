@@ -7,7 +7,8 @@ use Rattle.std.specs.List.{Contains}
 use Rattle.dav_disk.specs.Disk.{Doubt, IsOutcome, IsImage, Touches, LeavesOnly}
 use Rattle.dav_store.specs.Rows.{row_text, Rows, Spells, HasRow, IsBroken, IsReading, IsAtRest}
 use Rattle.dav_machine.specs.Log.{Rose}
-use Rattle.dav_store.specs.Body.{IsDamage}
+use Rattle.sha2.specs.Sha256.{sha256}
+use Rattle.dav_store.specs.Body.{IsDamage, id_of}
 use Rattle.dav_store.specs.Cause.{IsNoDamage}
 use Rattle.dav_store.specs.declared.fault.StoreFault.{StoreFault}
 use Rattle.dav_store.specs.declared.fault.StoreFault.TheVariants as store
@@ -23,7 +24,7 @@ use Rattle.dav_index.specs.declared.table.Table.{Table}
 use Rattle.dav_index.specs.declared.record.Record.{Record}
 use Rattle.dav_recorder.specs.Stands.{EachBody, IsIn, IsHeld, EachImage}
 use Rattle.dav_recorder.specs.Recovers.{Replays, rows_of, IsRecorded, Recovers, AllRecover, IsConsistent}
-use Rattle.dav_recorder.specs.Opening.{IsIndexOf, IsNoRecord, IsBadRow, IsNoCache, IsRead, IsOpened, IsStartFault, IsOther, IsFetchFault, desk_fault, dead_after}
+use Rattle.dav_recorder.specs.Opening.{IsIndexOf, IsNoRecord, IsBadRow, IsNoCache, IsRead, IsOpened, IsStartFault, IsOther, IsFetchFault, IsUndamaged, desk_fault, dead_after}
 use Rattle.dav_recorder.proofs.Standing.{images_quiet, rest_spells}
 
 -- where a row stands, something stands
@@ -199,9 +200,9 @@ start_fault honest url file before mid now (store.Damaged number stored found) l
 start_fault honest url file before mid now store.Memory le rose bad undamaged = tt
 
 -- the head that was found is another
-pub other_fault : (honest : Type 0) (url head file : List ℕ) (before now : ℕ) (e : DeskFault) → head ≢ head_of url → (honest → IsNothing file → head ≡ head_of url) → (honest → (IsNothing file → ⊥) → IsHead head × HasRow head file)
+pub other_fault : (honest : Type 0) (url head file : List ℕ) (before now : ℕ) (e : DeskFault) → head ≢ head_of url → (honest → IsNothing file → head ≡ head_of url) → (honest → (IsNothing file → ⊥) → IsHead head × HasRow head file) → (honest → length file < 1099511627776)
     → IsOther url head e → IsStartFault honest url file before now e
-other_fault honest url head file before now e differ made opened says = by e says
+other_fault honest url head file before now e differ made opened short says = by e says
   where
     found : honest → IsHead head × HasRow head file
     found h = opened h (λ none. differ (made h none))
@@ -211,13 +212,13 @@ other_fault honest url head file before now e differ made opened says = by e say
 
     by : (e : DeskFault) → IsOther url head e → IsStartFault honest url file before now e
     by faults.Disk says = absurd says
-    by (faults.NotACache at) says = λ h. inr (inl (says.0, ((found h).0.0, row h, says.1 (found h).0.0 (found h).0.2)))
+    by (faults.NotACache at) says = λ h. inr (inl (says.0, short h, ((found h).0.0, row h, says.1 (found h).0.0 (found h).0.2)))
     by (faults.Damaged number stored sum) says = absurd says
     by (faults.OtherServer kept asked) says = (
       says.0,
       λ h.
           let is : kept ≡ (found h).0.0 = says.1 (found h).0.0 (found h).0.2 in
-          ((λ same. differ ((found h).0.2 ∙ ap (λ (l : List ℕ). head_of l) (sym is ∙ same))), subst (λ (l : List ℕ). HasRow (head_of l) file) (sym is) (row h)),
+          ((λ same. differ ((found h).0.2 ∙ ap (λ (l : List ℕ). head_of l) (sym is ∙ same))), subst (λ (l : List ℕ). HasRow (head_of l) file) (sym is) (row h), short h),
     )
     by (faults.Queued path) says = absurd says
     by (faults.NoSuchJob number) says = absurd says
@@ -268,11 +269,19 @@ bad_before {url} {at} file short bad same made = elim (nothing_or file) [
   | inr some ↦ inr (inr (short, subst (λ (l : List ℕ). IsBadRow url at l) (same some) bad))
 ]
 
-pub fetch_fault : (honest : Type 0) (id : BodyId) (file : List ℕ) (before now : ℕ) (e : StoreFault) → (e ≡ store.Disk → Rose before now) → (honest → IsDamage id (take id.len file) e) → IsFetchFault honest id file before now (desk_fault e)
+pub fetch_fault : (honest : Type 0) (id : BodyId) (file : List ℕ) (before now : ℕ) (e : StoreFault) → (e ≡ store.Disk → Rose before now) → IsDamage honest id file e → IsFetchFault honest id file before now (desk_fault e)
 fetch_fault honest id file before now store.Disk rose damage = rose refl
 fetch_fault honest id file before now (store.NotACache at) rose damage = damage
 fetch_fault honest id file before now (store.Damaged number stored found) rose damage = damage
 fetch_fault honest id file before now store.Memory rose damage = tt
+
+-- a body whose file begins with the bytes that it is of is not damaged
+pub fetch_undamaged : (honest : Type 0) (h : honest) (id : BodyId) (file given : List ℕ) (e : StoreFault) → IsDamage honest id file e → take id.len file ≡ given → id ≡ id_of id.file given → IsUndamaged (desk_fault e)
+fetch_undamaged honest h id file given store.Disk damage begins is = tt
+fetch_undamaged honest h id file given (store.NotACache at) damage begins is = tt
+fetch_undamaged honest h id file given (store.Damaged number stored found) damage begins is =
+    absurd (damage.2 (damage.3.is_sum ∙ ap sha256 (damage.3.first h ∙ begins) ∙ sym (ap (λ (i : BodyId). i.sum) is) ∙ sym damage.1))
+fetch_undamaged honest h id file given store.Memory damage begins is = tt
 
 -- a desk is dead after every fault but want of memory
 pub dead_of : (old : Option DeskFault) (e : StoreFault) → (desk_fault e ≢ faults.Memory) → dead_after old e ≡ Some (desk_fault e)

@@ -1,5 +1,6 @@
 pub mod Stands
 pub mod Files
+pub mod Calls
 pub mod Recovers
 pub mod Opening
 pub mod Due

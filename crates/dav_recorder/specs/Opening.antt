@@ -1,9 +1,9 @@
 -- What an opening index says: its table, or where it is none.
-use Rattle.std.specs.Prelude.{◌≡◌, ◌≢◌, ◌⊎◌, ℕ, ◌<◌, List, ◌++◌, length, take, Option, Some}
+use Rattle.std.specs.Prelude.{◌≡◌, ◌≢◌, ◌⊎◌, ℕ, ◌<◌, List, ◌++◌, length, Option, Some}
 use Rattle.std.specs.Str.{IsUtf8}
-use Rattle.sha2.specs.Sha256.{sha256}
 use Rattle.dav_machine.specs.Log.{Rose}
 use Rattle.dav_store.specs.declared.body_id.BodyId.{BodyId}
+use Rattle.dav_store.specs.Body.{IsSumOf}
 use Rattle.dav_disk.specs.Disk.{Doubt}
 use Rattle.dav_store.specs.Rows.{Rows, Spells, HasRow, IsBroken, IsReading, IsAtRest}
 use Rattle.dav_store.specs.Start.{IsNothing, IsRefused, head_of}
@@ -41,21 +41,22 @@ pub record IsBadRow (url : List ℕ) (at : ℕ) (file : List ℕ) : Type 0 where
   pub size : at ≡ length front
   pub bad : IsBroken rest ⊎ ((row : List ℕ) × HasRow row rest × IsNoRecord table row)
 
--- the file begins with a head, and what it names is no text
+-- the file is no longer than an index may be, and begins with a head, and what that names is no text
 abbrev pub IsNoText : ℕ → List ℕ → Type 0
-IsNoText at file = (at ≡ 0) × ((kept : List ℕ) × HasRow (head_of kept) file × (IsUtf8 kept → ⊥))
+IsNoText at file = (at ≡ 0) × (length file < 1099511627776) × ((kept : List ℕ) × HasRow (head_of kept) file × (IsUtf8 kept → ⊥))
 
 -- the offset at which the file is no index of this URL: 2^40 where it has 2^40 bytes or more, else that of the first row that is
 -- not as it must be
 abbrev pub IsNoCache : List ℕ → ℕ → List ℕ → Type 0
 IsNoCache url at file = IsRefused at file ⊎ (IsNoText at file ⊎ ((length file < 1099511627776) × IsBadRow url at file))
 
--- why a start gives up: the disk failed in it, or, where the disk is honest, the file is no index, or one of another URL
+-- Why a start gives up: the disk failed in it, or, where the disk is honest, the file is no index, or one of another URL. A file that is
+-- too long is no index, whatever it begins with.
 abbrev pub IsStartFault : Type 0 → List ℕ → List ℕ → ℕ → ℕ → DeskFault → Type 0
 IsStartFault honest url file before now Disk = Rose before now
 IsStartFault honest url file before now (NotACache at) = honest → IsNoCache url at file
 IsStartFault honest url file before now (Damaged number stored found) = ⊥
-IsStartFault honest url file before now (OtherServer kept asked) = (asked ≡ url) × (honest → (kept ≢ url) × HasRow (head_of kept) file)
+IsStartFault honest url file before now (OtherServer kept asked) = (asked ≡ url) × (honest → (kept ≢ url) × HasRow (head_of kept) file × (length file < 1099511627776))
 IsStartFault honest url file before now (Queued path) = ⊥
 IsStartFault honest url file before now (NoSuchJob number) = ⊥
 IsStartFault honest url file before now (Crowded oldest) = ⊥
@@ -74,18 +75,30 @@ IsOther url head (Crowded oldest) = ⊥
 IsOther url head (Limit which) = ⊥
 IsOther url head Memory = Unit {0}
 
--- why no bytes of a body are given: the disk failed in the call, or, where the disk is honest, those that its file begins with
--- have another SHA-256, or there was no memory
+-- why no bytes of a body are given: the disk failed in the call; those that were read have another SHA-256, and where the disk is
+-- honest the file begins with them; or there was no memory
 abbrev pub IsFetchFault : Type 0 → BodyId → List ℕ → ℕ → ℕ → DeskFault → Type 0
 IsFetchFault honest id file before now Disk = Rose before now
-IsFetchFault honest id file before now (NotACache at) = honest → ⊥
-IsFetchFault honest id file before now (Damaged number stored found) = honest → (number ≡ id.file) × (stored ≡ id.sum) × (found ≡ sha256 (take id.len file)) × (found ≢ stored)
+IsFetchFault honest id file before now (NotACache at) = ⊥
+IsFetchFault honest id file before now (Damaged number stored found) = (number ≡ id.file) × (stored ≡ id.sum) × (found ≢ stored) × IsSumOf honest id file found
 IsFetchFault honest id file before now (OtherServer kept asked) = ⊥
 IsFetchFault honest id file before now (Queued path) = ⊥
 IsFetchFault honest id file before now (NoSuchJob number) = ⊥
 IsFetchFault honest id file before now (Crowded oldest) = ⊥
 IsFetchFault honest id file before now (Limit which) = ⊥
 IsFetchFault honest id file before now Memory = Unit {0}
+
+-- no body is told to be damaged
+abbrev pub IsUndamaged : DeskFault → Type 0
+IsUndamaged Disk = Unit {0}
+IsUndamaged (NotACache at) = Unit {0}
+IsUndamaged (Damaged number stored found) = ⊥
+IsUndamaged (OtherServer kept asked) = Unit {0}
+IsUndamaged (Queued path) = Unit {0}
+IsUndamaged (NoSuchJob number) = Unit {0}
+IsUndamaged (Crowded oldest) = Unit {0}
+IsUndamaged (Limit which) = Unit {0}
+IsUndamaged Memory = Unit {0}
 
 -- a fault of the index or of the bodies as one of the desk
 abbrev pub desk_fault : StoreFault → DeskFault

@@ -1,16 +1,18 @@
-ghost use Rattle.std.specs.Prelude.{◌≡◌, ◌⊎◌, ℕ, ◌+◌, ◌≤◌, List, [], ◌∷◌, ◌++◌, OnOk, IfErr, Some, All, Contains};
+ghost use Rattle.std.specs.Prelude.{◌≡◌, ◌⊎◌, ℕ, ◌+◌, ◌≤◌, List, [], ◌∷◌, ◌++◌, IsOk, OnOk, IfErr, None, Some, All, Contains};
 ghost use Rattle.dav_disk.specs.Disk.{Touches, HasCause};
 ghost use Rattle.dav_store.specs.Cause.{IsCaused, OnlyDisk};
+ghost use Rattle.dav_store.specs.Counts.{IsCountedAs};
 ghost use Rattle.dav_store.specs.Rows.{IsPayload, IsReady};
 ghost use Rattle.dav_store.specs.View.{journal_end};
 ghost use Rattle.dav_store.specs.declared.body_id.BodyId.{BodyId};
 ghost use Rattle.dav_recorder.specs.Stands.{EachBody, EachImage, IsHeld, IsSafe, Stands, StandsEither, IsFile, IsWritten, IsAdding, Spares, IsCommit};
-ghost use Rattle.dav_recorder.specs.Files.{RestStays, ChangesOnly, AreEmpty, IsStored};
+ghost use Rattle.dav_recorder.specs.Files.{RestStays, AreEmpty, IsStored};
 ghost use Rattle.dav_index.specs.declared.record.Record.{Record};
 ghost use Rattle.dav_index.specs.declared.table.Table.{Table};
 ghost use Rattle.dav_recorder.specs.Recovers.{Recovers, RecoversEither, IsConsistent};
 ghost use Rattle.dav_recorder.specs.Due.{IsDue};
-ghost use Rattle.dav_recorder.specs.declared.commit.Stop.TheVariants.{Before};
+ghost use Rattle.dav_recorder.specs.Calls.{body_calls, freeing_calls, entry_calls, IsUnbegun, IsBegun};
+ghost use Rattle.dav_recorder.specs.declared.commit.Stop.TheVariants.{Before, Under};
 
 use dav_disk::Disk;
 use dav_store::{Bodies, Journal, StoreFault};
@@ -44,6 +46,8 @@ fn keep<D: Disk>(
     ensures touches { D.honest disk.new → Touches (IsFile fresh) (D.moment disk.old) (D.moment disk.new) (D.past disk.old) (D.past disk.new) }
     ensures others { D.honest disk.new → RestStays (IsFile fresh) (D.seen disk.old) (D.seen disk.new) }
     ensures stored { D.honest disk.new → OnOk result (IsStored fresh bytes.now [] (D.seen disk.new) (D.past disk.new (D.moment disk.new))) }
+    ensures counts { IsCountedAs (body_calls fresh) (D.moment disk.old) (D.moment disk.new) result }
+    ensures none { fresh ≡ None → IsOk result }
     ensures only { OnlyDisk result }
     ensures keeps { D.honest disk.new → D.honest disk.old }
     ensures cause { IsCaused (D.faults disk.old) (D.faults disk.new) result }
@@ -76,6 +80,7 @@ pub(crate) fn release<D: Disk>(
     ensures touches { D.honest disk.new → Touches (Contains freed.now) (D.moment disk.old) (D.moment disk.new) (D.past disk.old) (D.past disk.new) }
     ensures others { D.honest disk.new → RestStays (Contains freed.now) (D.seen disk.old) (D.seen disk.new) }
     ensures emptied { D.honest disk.new → OnOk result (AreEmpty freed.now (D.seen disk.new) (D.past disk.new (D.moment disk.new))) }
+    ensures counts { IsCountedAs (freeing_calls freed.now) (D.moment disk.old) (D.moment disk.new) result }
     ensures only { OnlyDisk result }
     ensures keeps { D.honest disk.new → D.honest disk.old }
     ensures cause { IsCaused (D.faults disk.old) (D.faults disk.new) result }
@@ -114,7 +119,9 @@ fn commit_rows<D: Disk>(
     ensures ready { D.honest disk.new → OnOk result (IsReady (journal_end journal.new) (D.seen disk.new 0) (D.past disk.new (D.moment disk.new) 0)) }
     ensures touches { D.honest disk.new → Touches (IsWritten fresh freed.now) (D.moment disk.old) (D.moment disk.new) (D.past disk.old) (D.past disk.new) }
     ensures others { D.honest disk.new → RestStays (IsWritten fresh freed.now) (D.seen disk.old) (D.seen disk.new) }
-    ensures early { D.honest disk.new → IfErr result (λ stop. stop ≡ Before → ChangesOnly D.moment D.seen D.past (IsFile fresh) disk.old disk.new) }
+    ensures counts { IsCountedAs (entry_calls fresh freed.now) (D.moment disk.old) (D.moment disk.new) result }
+    ensures unbegun { IfErr result (λ stop. stop ≡ Before → IsUnbegun D.honest D.moment D.seen D.past fresh disk.old disk.new) }
+    ensures begun { IfErr result (λ stop. stop ≡ Under → IsBegun D.honest D.moment D.seen D.past fresh bytes.now freed.now disk.old disk.new) }
     ensures stored { D.honest disk.new → OnOk result (IsStored fresh bytes.now freed.now (D.seen disk.new) (D.past disk.new (D.moment disk.new))) }
     ensures emptied { D.honest disk.new → OnOk result (AreEmpty freed.now (D.seen disk.new) (D.past disk.new (D.moment disk.new))) }
     ensures keeps { D.honest disk.new → D.honest disk.old }
@@ -163,7 +170,9 @@ pub(crate) fn commit<D: Disk>(
     ensures ready { D.honest disk.new → OnOk result (IsReady (journal_end journal.new) (D.seen disk.new 0) (D.past disk.new (D.moment disk.new) 0)) }
     ensures touches { D.honest disk.new → Touches (IsWritten fresh freed.now) (D.moment disk.old) (D.moment disk.new) (D.past disk.old) (D.past disk.new) }
     ensures others { D.honest disk.new → RestStays (IsWritten fresh freed.now) (D.seen disk.old) (D.seen disk.new) }
-    ensures early { D.honest disk.new → IfErr result (λ stop. stop ≡ Before → ChangesOnly D.moment D.seen D.past (IsFile fresh) disk.old disk.new) }
+    ensures counts { IsCountedAs (entry_calls fresh freed.now) (D.moment disk.old) (D.moment disk.new) result }
+    ensures unbegun { IfErr result (λ stop. stop ≡ Before → IsUnbegun D.honest D.moment D.seen D.past fresh disk.old disk.new) }
+    ensures begun { IfErr result (λ stop. stop ≡ Under → IsBegun D.honest D.moment D.seen D.past fresh bytes.now freed.now disk.old disk.new) }
     ensures stored { D.honest disk.new → OnOk result (IsStored fresh bytes.now freed.now (D.seen disk.new) (D.past disk.new (D.moment disk.new))) }
     ensures emptied { D.honest disk.new → OnOk result (AreEmpty freed.now (D.seen disk.new) (D.past disk.new (D.moment disk.new))) }
     ensures keeps { D.honest disk.new → D.honest disk.old }

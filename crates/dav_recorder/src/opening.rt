@@ -26,12 +26,14 @@ pub(crate) fn open<D: Disk>(alloc: Global, disk: &mut D, url: &str) -> Result<Op
     ensures any_moment { D.honest disk.new → (table : Table) (bodies : ℕ → List ℕ) → AllRecover url.now table bodies (D.past disk.old (D.moment disk.old))
         → EachImage (D.past disk.new) (D.moment disk.old) (D.moment disk.new) (Recovers url.now table bodies) }
     ensures opened { D.honest disk.new → IfOk result (λ o. (length (D.seen disk.old 0) < 1099511627776) × IsIndexOf url.now o.table (D.seen disk.old 0)) }
+    ensures indexed { IfOk result (λ o. (file : List ℕ) × IsIndexOf url.now o.table file) }
     ensures within { IfOk result (λ o. IsWithin o.table) }
     ensures fault { IfErr result (λ e. IsStartFault (D.honest disk.new) url.now (D.seen disk.old 0) (D.faults disk.old) (D.faults disk.new) e) }
     ensures ready { D.honest disk.new → IfOk result (λ o. IsReady (journal_end o.journal) (D.seen disk.new 0) (D.past disk.new (D.moment disk.new) 0)) }
     ensures touches { D.honest disk.new → Touches (λ f. f ≡ 0) (D.moment disk.old) (D.moment disk.new) (D.past disk.old) (D.past disk.new) }
     ensures others { D.honest disk.new → OthersStay 0 (D.seen disk.old) (D.seen disk.new) }
     ensures keeps { D.honest disk.new → D.honest disk.old }
+    ensures moments { D.moment disk.old ≤ D.moment disk.new }
     ensures faults { D.faults disk.old ≤ D.faults disk.new }
 {
     let head = head_payload(alloc, url.as_bytes())?;

@@ -1,4 +1,4 @@
-ghost use Rattle.std.specs.Prelude.{◌≡◌, ◌⊎◌, ℕ, ◌+◌, List, [], ◌∷◌, ◌++◌, OnOk, IfOk, IfErr};
+ghost use Rattle.std.specs.Prelude.{◌≡◌, ◌⊎◌, ℕ, ◌+◌, ◌≤◌, List, [], ◌∷◌, ◌++◌, OnOk, IfOk, IfErr};
 ghost use Rattle.dav_disk.specs.Disk.{Touches, AllStay};
 ghost use Rattle.dav_store.specs.Cause.{IsCaused, IsNoDamage};
 ghost use Rattle.dav_store.specs.Rows.{IsReading};
@@ -9,6 +9,7 @@ ghost use Rattle.dav_index.specs.Records.{IsRecord, text_of};
 ghost use Rattle.dav_index.specs.Tables.{replay, fresh_table};
 ghost use Rattle.dav_index.specs.Bounds.{IsWithin};
 ghost use Rattle.dav_recorder.specs.Opening.{IsNoRecord, IsBadRow, IsRead, IsOpened};
+ghost use Rattle.dav_recorder.specs.Recovers.{Replays};
 ghost use Rattle.dav_recorder.specs.declared.reading.Next.TheVariants.{Row, End};
 
 use dav_disk::Disk;
@@ -46,9 +47,11 @@ pub(crate) fn read_table<D: Disk>(
         → IsReading (head_of url ∷ []) (journal_end journal) (D.seen disk.old 0) (D.past disk.old (D.moment disk.old) 0) → IsBadRow url at (D.seen disk.old 0)) }
     ensures touches { D.honest disk.new → Touches (λ _. ⊥) (D.moment disk.old) (D.moment disk.new) (D.past disk.old) (D.past disk.new) }
     ensures seen { D.honest disk.new → AllStay (D.seen disk.old) (D.seen disk.new) }
+    ensures replayed { IfOk result (λ o. (records : List Record) × Replays fresh_table records o.table) }
     ensures within { IfOk result (λ o. IsWithin o.table) }
     ensures keeps { D.honest disk.new → D.honest disk.old }
     ensures cause { IsCaused (D.faults disk.old) (D.faults disk.new) result }
+    ensures moments { D.moment disk.old ≤ D.moment disk.new }
     ensures undamaged { IfErr result IsNoDamage }
 {
     let mut journal = journal;
@@ -81,11 +84,14 @@ fn next_record<D: Disk>(
     ensures refused { D.honest disk.new → IfErr result (λ e. (at : ℕ) → e ≡ NotACache at → (url : List ℕ) (records : List Record)
         → IsRead url records table.old (journal_end journal.old) (D.seen disk.old 0) (D.past disk.old (D.moment disk.old) 0) → IsBadRow url at (D.seen disk.old 0)) }
     ensures counted { IfOk result (λ n. n ≡ Row → table.new.records ≡ row) }
+    ensures record { IfOk result (λ n. n ≡ Row → (r : Record) × IsRecord r × (table.new ≡ replay table.old r)) }
+    ensures same { IfOk result (λ n. n ≡ End → table.new ≡ table.old) }
     ensures within { OnOk result (IsWithin table.new) }
     ensures touches { D.honest disk.new → Touches (λ _. ⊥) (D.moment disk.old) (D.moment disk.new) (D.past disk.old) (D.past disk.new) }
     ensures seen { D.honest disk.new → AllStay (D.seen disk.old) (D.seen disk.new) }
     ensures keeps { D.honest disk.new → D.honest disk.old }
     ensures cause { IsCaused (D.faults disk.old) (D.faults disk.new) result }
+    ensures moments { D.moment disk.old ≤ D.moment disk.new }
     ensures undamaged { IfErr result IsNoDamage }
 {
     match journal.next_row(disk) {

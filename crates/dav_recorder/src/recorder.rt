@@ -2,6 +2,7 @@ ghost use Rattle.std.specs.Prelude.{◌≡◌, ◌≢◌, ◌⊎◌, ℕ, ◌+�
 ghost use Rattle.sha2.specs.Sha256.{sha256};
 ghost use Rattle.dav_machine.specs.Log.{Rose};
 ghost use Rattle.dav_disk.specs.Disk.{AllStay};
+ghost use Rattle.dav_store.specs.Counts.{IsCountedAs};
 ghost use Rattle.dav_store.specs.Rows.{IsPayload, IsReady};
 ghost use Rattle.dav_store.specs.View.{journal_end};
 ghost use Rattle.dav_deeds.specs.DeskTable.{DeskTable, started};
@@ -34,10 +35,11 @@ pub struct Recorder<D> {
 
 impl<D: Disk> Recorder<D> {
     ghost use Rattle.dav_recorder.specs.Planned.{IsPlanned, IsQuiet, kept_table};
-    ghost use Rattle.dav_recorder.specs.Opening.{IsIndexOf, IsStartFault, IsFetchFault, desk_fault, dead_after};
+    ghost use Rattle.dav_recorder.specs.Opening.{IsIndexOf, IsStartFault, IsFetchFault, IsUndamaged, desk_fault, dead_after};
     ghost use Rattle.dav_recorder.specs.Survives.{IsLive, IsLeft};
     ghost use Rattle.dav_recorder.specs.Files.{ChangesOnly, AreEmpty, IsStored};
-    ghost use Rattle.dav_recorder.specs.Stands.{IsFile, IsWritten};
+    ghost use Rattle.dav_recorder.specs.Calls.{entry_calls, freeing_calls, IsUnder};
+    ghost use Rattle.dav_recorder.specs.Stands.{IsWritten};
 
     /// Opens the index of a disk for a URL, which is made where nothing stands, and gives the table that it leads to. Answers
     /// `NotACache` with the offset of the first row that is not as it must be, and `OtherServer` where the index is one of
@@ -51,12 +53,14 @@ impl<D: Disk> Recorder<D> {
             → MatchResult result (λ both. D.honest both.0.disk → EachImage (D.past both.0.disk) (D.moment disk) (D.moment both.0.disk) (Recovers url.now table given))
             (λ both. D.honest both.0 → EachImage (D.past both.0) (D.moment disk) (D.moment both.0) (Recovers url.now table given)) }
         ensures opened { IfOk result (λ both. D.honest both.0.disk → (length (D.seen disk 0) < 1099511627776) × IsIndexOf url.now both.1 (D.seen disk 0)) }
+        ensures indexed { IfOk result (λ both. (file : List ℕ) × IsIndexOf url.now both.1 file) }
         ensures within { IfOk result (λ both. IsWithin both.1) }
         ensures fault { IfErr result (λ both. IsStartFault (D.honest both.0) url.now (D.seen disk 0) (D.faults disk) (D.faults both.0) both.1) }
         ensures ready { IfOk result (λ both. D.honest both.0.disk → IsReady (journal_end both.0.journal) (D.seen both.0.disk 0) (D.past both.0.disk (D.moment both.0.disk) 0)) }
         ensures fresh { IfOk result (λ both. (both.0.trace.steps.items ≡ []) × (both.0.under ≡ None) × (both.0.dead ≡ None)) }
         ensures changes { MatchResult result (λ both. D.honest both.0.disk → ChangesOnly D.moment D.seen D.past (λ f. f ≡ 0) disk both.0.disk) (λ both. D.honest both.0 → ChangesOnly D.moment D.seen D.past (λ f. f ≡ 0) disk both.0) }
         ensures keeps { MatchResult result (λ both. D.honest both.0.disk → D.honest disk) (λ both. D.honest both.0 → D.honest disk) }
+        ensures moments { MatchResult result (λ both. D.moment disk ≤ D.moment both.0.disk) (λ both. D.moment disk ≤ D.moment both.0) }
         ensures faults { MatchResult result (λ both. D.faults disk ≤ D.faults both.0.disk) (λ both. D.faults disk ≤ D.faults both.0) }
     {
         let mut disk = disk;
@@ -89,7 +93,7 @@ impl<D: Disk> Recorder<D> {
     /// Puts a step on the disk that has a record: a new body, if there is one, the record's row, and an end to files that are
     /// needed no more. Then the step stands in the trace, with the number of calls that the disk was asked. A stop at any moment
     /// leaves the table from before the step or from after it. Where the disk fails, the desk is dead, and the step is the one
-    /// under way if its record was begun.
+    /// under way exactly where its record was begun: then its body is stored.
     pub fn enter(
         &mut self,
         step: Step,
@@ -117,7 +121,8 @@ impl<D: Disk> Recorder<D> {
             × ((self.new.under ≡ self.old.under) ⊎ (self.new.under ≡ Some (record step { moment = D.moment self.new.disk })))) }
         ensures ready { D.honest self.new.disk → OnOk result (IsReady (journal_end self.new.journal) (D.seen self.new.disk 0) (D.past self.new.disk (D.moment self.new.disk) 0)) }
         ensures changes { D.honest self.new.disk → ChangesOnly D.moment D.seen D.past (IsWritten fresh freed.now) self.old.disk self.new.disk }
-        ensures early { D.honest self.new.disk → OnErr result (ChangesOnly D.moment D.seen D.past (IsFile fresh) self.old.disk self.new.disk ⊎ (self.new.under ≡ Some (record step { moment = D.moment self.new.disk }))) }
+        ensures under { OnErr result (IsUnder D.honest D.moment D.seen D.past fresh bytes.now freed.now step self.old.disk self.new.disk self.old.under self.new.under) }
+        ensures counts { IsCountedAs (entry_calls fresh freed.now) (D.moment self.old.disk) (D.moment self.new.disk) result }
         ensures stored { D.honest self.new.disk → OnOk result (IsStored fresh bytes.now freed.now (D.seen self.new.disk) (D.past self.new.disk (D.moment self.new.disk))) }
         ensures emptied { D.honest self.new.disk → OnOk result (AreEmpty freed.now (D.seen self.new.disk) (D.past self.new.disk (D.moment self.new.disk))) }
         ensures capacity { vec_capacity self.old.trace.steps ≤ vec_capacity self.new.trace.steps }
@@ -171,6 +176,7 @@ impl<D: Disk> Recorder<D> {
         ensures ready { D.honest self.new.disk → IsReady (journal_end self.old.journal) (D.seen self.old.disk 0) (D.past self.old.disk (D.moment self.old.disk) 0)
             → IsReady (journal_end self.new.journal) (D.seen self.new.disk 0) (D.past self.new.disk (D.moment self.new.disk) 0) }
         ensures changes { D.honest self.new.disk → ChangesOnly D.moment D.seen D.past (Contains freed.now) self.old.disk self.new.disk }
+        ensures counts { IsCountedAs (freeing_calls freed.now) (D.moment self.old.disk) (D.moment self.new.disk) result }
         ensures emptied { D.honest self.new.disk → OnOk result (AreEmpty freed.now (D.seen self.new.disk) (D.past self.new.disk (D.moment self.new.disk))) }
         ensures capacity { vec_capacity self.old.trace.steps ≤ vec_capacity self.new.trace.steps }
         ensures keeps { D.honest self.new.disk → D.honest self.old.disk }
@@ -190,7 +196,8 @@ impl<D: Disk> Recorder<D> {
         }
     }
 
-    /// The bytes of a body. Answers `Damaged` where they do not have the body's SHA-256, and `Memory` only before the first
+    /// The bytes of a body. Answers `Damaged` where they do not have the body's SHA-256, which does not come to a body of the
+    /// table over a disk that keeps the model, and `Memory` only before the first
     /// device call; after `Disk` and `Damaged` the desk is dead. At any answer a stop leaves what it left before.
     pub fn fetch(&mut self, id: &BodyId) -> Result<Blob, DeskFault>
         ensures bytes { D.honest self.new.disk → IfOk result (λ blob. (url : List ℕ) (opening : DeskTable) (start : ℕ) (given : ℕ → List ℕ) → IsLive D.moment D.seen D.past url opening start given self.old
@@ -200,6 +207,8 @@ impl<D: Disk> Recorder<D> {
             → IsLive D.moment D.seen D.past url opening start given self.new }
         ensures seen { D.honest self.new.disk → AllStay (D.seen self.old.disk) (D.seen self.new.disk) }
         ensures fault { IfErr result (λ e. IsFetchFault (D.honest self.new.disk) id.now (D.seen self.old.disk id.now.file) (D.faults self.old.disk) (D.faults self.new.disk) e) }
+        ensures undamaged { D.honest self.new.disk → IfErr result (λ e. (url : List ℕ) (opening : DeskTable) (start : ℕ) (given : ℕ → List ℕ) → IsLive D.moment D.seen D.past url opening start given self.old
+            → Contains (bodies_of (kept_table (table_after opening self.old.trace.steps.items))) id.now → IsUndamaged e) }
         ensures starved { IfErr result (λ e. e ≡ MemoryFault → (self.new.disk ≡ self.old.disk) × (self.new.dead ≡ self.old.dead)) }
         ensures stopped { IfErr result (λ e. e ≢ MemoryFault → self.new.dead ≡ Some e) }
         ensures alive { OnOk result (self.new.dead ≡ self.old.dead) }
@@ -207,6 +216,7 @@ impl<D: Disk> Recorder<D> {
         ensures ready { D.honest self.new.disk → IsReady (journal_end self.old.journal) (D.seen self.old.disk 0) (D.past self.old.disk (D.moment self.old.disk) 0)
             → IsReady (journal_end self.new.journal) (D.seen self.new.disk 0) (D.past self.new.disk (D.moment self.new.disk) 0) }
         ensures changes { D.honest self.new.disk → ChangesOnly D.moment D.seen D.past (λ _. ⊥) self.old.disk self.new.disk }
+        ensures counts { IsCountedAs 1 (D.moment self.old.disk) (D.moment self.new.disk) result }
         ensures keeps { D.honest self.new.disk → D.honest self.old.disk }
         ensures faults { D.faults self.old.disk ≤ D.faults self.new.disk }
     {

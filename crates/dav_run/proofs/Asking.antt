@@ -8,8 +8,8 @@ use Rattle.dav_index.specs.Items.{Every}
 use Rattle.dav_index.specs.Queries.{is_older, older, oldest_clean}
 use Rattle.dav_index.specs.Records.{IsBare}
 use Rattle.dav_deeds.specs.DeskTable.{DeskTable}
-use Rattle.dav_deeds.specs.Effects.{effect_unless, effect_done, settle_effect, take_effect, taken}
-use Rattle.dav_deeds.specs.Legal.{IsAsk, deed_of}
+use Rattle.dav_deeds.specs.Effects.{told_of, effect_unless, effect_done, settle_effect, take_effect, taken}
+use Rattle.dav_deeds.specs.Legal.{IsAsk, IsOfShell, deed_of}
 use Rattle.dav_deeds.specs.Made.{answer_by}
 use Rattle.dav_deeds.specs.Refusals.{lacks_place, lacks_bytes, lacks_known, crowding, full_or_crowded, store_refusal, queued_with, queued_fault, job_fault, refusal_of}
 use Rattle.dav_deeds.specs.Sound.{IsSound}
@@ -28,7 +28,7 @@ use Rattle.dav_desk.specs.Working.{AreGiven, HasBytes, HasSum, IsReadied}
 use Rattle.dav_desk.specs.declared.desk.Desk.{Desk}
 use Rattle.dav_upload.specs.Asking.{asking, Met, Answered, Asks, answer_met}
 use Rattle.dav_upload.specs.Desks.{DiskView, Works, Stops, HasBytesIf, HasSumIf, WasAsked}
-use Rattle.dav_upload.specs.Resting.{IsOfShell, IsResting}
+use Rattle.dav_upload.specs.Resting.{IsResting}
 use Rattle.dav_upload.proofs.Asks.{bytes_so, sums_so}
 use Rattle.dav_upload.proofs.ShellAsks.{shell_rests}
 use Rattle.dav_run.specs.Answering.{DoesDesk, HasPath}
@@ -145,8 +145,8 @@ module _ {D : Type 0} (view : DiskView D) where
   pub asks_so : (ask : Ask) (x y : Desk D) (result : Answered) → IsAsk ask → (asked : IsAsked view.honest view.moment view.seen view.faults Shell 0 ask x y result)
       → (view.honest y.recorder.disk → (url : List ℕ) (opening : DeskTable) (start : ℕ) (given : ℕ → List ℕ) → AreGiven x.table given ask → Works view url opening start given x → y.recorder.dead ≡ None → Works view url opening start given y)
       → (view.honest y.recorder.disk → (url : List ℕ) (opening : DeskTable) (start : ℕ) (given : ℕ → List ℕ) → AreGiven x.table given ask → Works view url opening start given x → y.recorder.dead ≢ None → Stops view url opening start given y)
-      → (view.honest y.recorder.disk → IfOk result (λ answer. (url : List ℕ) (opening : DeskTable) (start : ℕ) (given : ℕ → List ℕ) → Works view url opening start given x → HasBytes given answer))
-      → IfOk result HasSum → (view.honest y.recorder.disk → view.honest x.recorder.disk) → view.faults x.recorder.disk ≤ view.faults y.recorder.disk
+      → (view.honest y.recorder.disk → IfOk result (λ answer. (url : List ℕ) (opening : DeskTable) (start : ℕ) (given : ℕ → List ℕ) → Works view url opening start given x → HasBytes given (told_of x.table 0 (deed_of x.table ask)) answer))
+      → IfOk result (HasSum (told_of x.table 0 (deed_of x.table ask))) → (view.honest y.recorder.disk → view.honest x.recorder.disk) → view.faults x.recorder.disk ≤ view.faults y.recorder.disk
       → DoesDesk view x y (Asks x.table (asking Shell 0 ask)) (result, y.table)
   asks_so ask x y result is_ask asked working stopped bytes sum keeps no_fewer =
       let met : Met = record { verdict = asked.verdict; bytes = asked.bytes } in
@@ -158,8 +158,8 @@ module _ {D : Type 0} (view : DiskView D) where
         cause = asked.cause;
         working = working;
         stopped = stopped;
-        bytes = λ honest url opening start given works. subst (HasBytesIf given) asked.answer (bytes_so view x result (bytes honest) url opening start given works);
-        sums = subst HasSumIf asked.answer (sums_so result sum);
+        bytes = λ honest url opening start given works. subst (HasBytesIf given (told_of x.table 0 (deed_of x.table ask))) asked.answer (bytes_so view x (told_of x.table 0 (deed_of x.table ask)) result (bytes honest) url opening start given works);
+        sums = subst (HasSumIf (told_of x.table 0 (deed_of x.table ask))) asked.answer (sums_so (told_of x.table 0 (deed_of x.table ask)) result sum);
         keeps = keeps;
         no_fewer = no_fewer;
       } in

@@ -1,22 +1,18 @@
 -- The bytes that the stores of a run put into their files.
 use Rattle.std.proofs.Common.{◌≡◌, ℕ, ◌+◌, ◌<◌, ◌≤◌, max, List, [], ◌∷◌, length, Bool, true, false, nat_eq, if◌then◌else◌, Option, Some, None, refl, sym, ◌∙◌, ap, subst, arith}
 use Rattle.std.proofs.lemmas.Bool.Decides.{nat_tests}
-use Rattle.std.proofs.Math.Nat.{le-max_left, le-max_right}
-use Rattle.dav_text.specs.Path.{PathParts}
-use Rattle.dav_store.specs.Body.{id_of}
+use Rattle.std.proofs.Math.Nat.{le-max_left}
 use Rattle.dav_store.specs.declared.body_id.BodyId.{BodyId}
 use Rattle.dav_index.specs.Tables.{file_above}
 use Rattle.dav_index.specs.declared.record.Record.{Record}
 use Rattle.dav_index.specs.declared.table.Table.{Table}
 use Rattle.dav_deeds.specs.DeskTable.{DeskTable}
-use Rattle.dav_deeds.specs.Effects.{Wait, Effect, waited, recorded, changed, after, effect_of, effect_unless}
-use Rattle.dav_deeds.specs.Legal.{deed_of, body_unless}
-use Rattle.dav_deeds.specs.Refusals.{store_refusal}
+use Rattle.dav_deeds.specs.Effects.{Wait, Effect, waited, recorded, changed, after, effect_of}
+use Rattle.dav_deeds.specs.Legal.{bytes_in, deed_of, new_body}
 use Rattle.dav_deeds.specs.declared.ask.Ask.{Ask}
-use Rattle.dav_deeds.specs.declared.ask.Ask.TheVariants.{Store, Forget, Take, Settle, Stop}
 use Rattle.dav_deeds.specs.declared.deed.Deed.{Deed}
-use Rattle.dav_deeds.specs.declared.deed.Deed.TheVariants as deeds
 use Rattle.dav_deeds.specs.declared.fault.DeskFault.{DeskFault}
+use Rattle.dav_deeds.proofs.AllRows.{body_made, body_next}
 use Rattle.dav_desk.specs.Verdict.{Verdict, Went, Stopped, Starved, table_by}
 use Rattle.dav_desk.specs.Working.{AreGiven}
 use Rattle.dav_upload.specs.Asking.{Asked, table_met}
@@ -41,48 +37,37 @@ changed_next t e =
 pub after_next : (t : DeskTable) (now : ℕ) (deed : Deed) → t.index.next_file ≤ (after t now deed).index.next_file
 after_next t now deed = changed_next t (effect_of t now deed)
 
--- a store that isn't refused takes one
-store_next : (t : DeskTable) (now : ℕ) (path : PathParts) (bytes : List ℕ) → store_refusal t.index path (length bytes) ≡ None → t.index.next_file < (after t now (deed_of t (Store path bytes))).index.next_file
-store_next t now path bytes is =
-    subst (λ (o : Option DeskFault). t.index.next_file < (changed t (effect_unless (store_refusal t.index path (length bytes)) t now (deeds.Store path (length bytes) (body_unless o id)))).index.next_file) (sym is)
-    (subst (λ (o : Option DeskFault). t.index.next_file < (changed t (effect_unless o t now (deeds.Store path (length bytes) (Some id)))).index.next_file) (sym is)
-    (let above : t.index.next_file + 1 ≤ max t.index.next_file (t.index.next_file + 1) = le-max_right t.index.next_file (t.index.next_file + 1) in omega (arith, above)))
-  where
-    id : BodyId
-    id = id_of t.index.next_file bytes
+-- these bytes in the file of the new body, if there is one
+abbrev pub given_to : Option BodyId → List ℕ → (ℕ → List ℕ) → ℕ → List ℕ
+given_to None bytes given file = given file
+given_to (Some id) bytes given file = if nat_eq file id.file then bytes else given file
 
--- these bytes, where the ask stores some, in its file
 abbrev pub given_with : DeskTable → (ℕ → List ℕ) → Ask → ℕ → List ℕ
-given_with t given (Store path bytes) file = if nat_eq file t.index.next_file then bytes else given file
-given_with t given (Forget path locks below) file = given file
-given_with t given Take file = given file
-given_with t given (Settle job done) file = given file
-given_with t given Stop file = given file
+given_with t given ask file = given_to (new_body (deed_of t ask)) (bytes_in ask) given file
+
+next_of : (t : DeskTable) (ask : Ask) (id : BodyId) → new_body (deed_of t ask) ≡ Some id → id.file ≡ t.index.next_file
+next_of t ask id some = ap (λ (b : BodyId). b.file) (body_made t ask id some)
 
 pub with_before : (t : DeskTable) (given : ℕ → List ℕ) (ask : Ask) (file : ℕ) → file < t.index.next_file → given_with t given ask file ≡ given file
-with_before t given (Store path bytes) file early =
-    let off : nat_eq file t.index.next_file ≡ false = grind (arith, nat_tests) in ap (λ (b : Bool). if b then bytes else given file) off
-with_before t given (Forget path locks below) file early = refl
-with_before t given Take file early = refl
-with_before t given (Settle job done) file early = refl
-with_before t given Stop file early = refl
+with_before t given ask file early = by (new_body (deed_of t ask)) refl
+  where
+    by : (new : Option BodyId) → new_body (deed_of t ask) ≡ new → given_to new (bytes_in ask) given file ≡ given file
+    by None is = refl
+    by (Some id) is =
+        let next : id.file ≡ t.index.next_file = next_of t ask id is in
+        let off : nat_eq file id.file ≡ false = grind (arith, nat_tests) in ap (λ (b : Bool). if b then bytes_in ask else given file) off
 
 pub with_given : (t : DeskTable) (given : ℕ → List ℕ) (ask : Ask) → AreGiven t (given_with t given ask) ask
-with_given t given (Store path bytes) =
-    let same : nat_eq t.index.next_file t.index.next_file ≡ true = grind (arith, nat_tests) in
-    λ none. ap (λ (b : Bool). if b then bytes else given t.index.next_file) same
-with_given t given (Forget path locks below) = tt
-with_given t given Take = tt
-with_given t given (Settle job done) = tt
-with_given t given Stop = tt
+with_given t given ask id some =
+    let same : nat_eq id.file id.file ≡ true = grind (arith, nat_tests) in
+    ap (λ (new : Option BodyId). given_to new (bytes_in ask) given id.file) some ∙ ap (λ (b : Bool). if b then bytes_in ask else given id.file) same
 
 -- the bytes that are given for the file stay so where later ones are in other files
 given_on : (t : DeskTable) (now : ℕ) (given bodies : ℕ → List ℕ) (ask : Ask) → ((file : ℕ) → file < (after t now (deed_of t ask)).index.next_file → bodies file ≡ given_with t given ask file) → AreGiven t bodies ask
-given_on t now given bodies (Store path bytes) same = λ none. same t.index.next_file (store_next t now path bytes none) ∙ with_given t given (Store path bytes) none
-given_on t now given bodies (Forget path locks below) same = tt
-given_on t now given bodies Take same = tt
-given_on t now given bodies (Settle job done) same = tt
-given_on t now given bodies Stop same = tt
+given_on t now given bodies ask same id some =
+    let next : id.file ≡ t.index.next_file = next_of t ask id some in
+    let below : t.index.next_file < (after t now (deed_of t ask)).index.next_file = body_next t now ask id some in
+    same id.file (omega (arith, next, below)) ∙ with_given t given ask id some
 
 -- The bytes of files: those given for the files from before, and those of each store in its file.
 pub record HasBodies (given : ℕ → List ℕ) (t : DeskTable) (es : List Asked) : Type 0 where

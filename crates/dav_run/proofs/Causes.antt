@@ -1,5 +1,5 @@
 -- Why a run ended by its disk or by its cache.
-use Rattle.std.proofs.Common.{◌≡◌, ◌≢◌, ◌⊎◌, inl, inr, ℕ, ◌<◌, ◌≤◌, List, [], ◌∷◌, ◌++◌, length, fold, find, Bool, true, false, not, ◌&&◌, ◌||◌, cond, if◌then◌else◌, nat_le, nat_lt, Option, Some, None, Ok, Err, refl, sym, ◌∙◌, ap, subst}
+use Rattle.std.proofs.Common.{◌≡◌, ◌≢◌, ◌⊎◌, inl, inr, ℕ, ◌<◌, ◌≤◌, List, [], ◌∷◌, ◌++◌, length, take, fold, find, Bool, true, false, not, ◌&&◌, ◌||◌, cond, if◌then◌else◌, nat_le, nat_lt, Option, Some, None, Ok, Err, refl, sym, ◌∙◌, ap, subst}
 use Rattle.dav_machine.specs.Log.{event, any_failed, Rose}
 use Rattle.dav_machine.specs.Devices.{one_device, answers_before}
 use Rattle.dav_machine.specs.Machine.{Run, run_with, prepend, give}
@@ -90,8 +90,17 @@ record Died {D : Type 0} (view : DiskView D) (x z : Desk D) (fault : DeskFault) 
 fetch_later : (honest : Type 0) (id : BodyId) (file now_file : List ℕ) (before now : ℕ) (fault : DeskFault) → (honest → now_file ≡ file) → IsFetchFault honest id file before now fault → IsFetchFault honest id now_file before now fault
 fetch_later honest id file now_file before now faults.Disk same cause = cause
 fetch_later honest id file now_file before now (faults.NotACache at) same cause = cause
-fetch_later honest id file now_file before now (faults.Damaged number kept found) same cause = λ h.
-    subst (λ (l : List ℕ). IsFetchFault honest id l before now (faults.Damaged number kept found)) (sym (same h)) cause h
+fetch_later honest id file now_file before now (faults.Damaged number kept found) same cause = (
+  cause.0,
+  cause.1,
+  cause.2,
+  record {
+    bytes = cause.3.bytes;
+    no_longer = cause.3.no_longer;
+    is_sum = cause.3.is_sum;
+    first = λ h. cause.3.first h ∙ ap (λ (l : List ℕ). take id.len l) (sym (same h));
+  },
+)
 fetch_later honest id file now_file before now (faults.OtherServer kept asked) same cause = cause
 fetch_later honest id file now_file before now (faults.Queued path) same cause = cause
 fetch_later honest id file now_file before now (faults.NoSuchJob number) same cause = cause

@@ -1,5 +1,5 @@
 -- Which steps of a run closed a path, and with the bytes of which line.
-use Rattle.std.proofs.Common.{◌≡◌, inl, inr, ℕ, List, [], ◌∷◌, ◌++◌, length, Bool, true, false, cond, Option, Some, None, Ok, Err, refl, sym, ◌∙◌, ap, subst, append_assoc, arith}
+use Rattle.std.proofs.Common.{◌≡◌, inl, inr, ℕ, List, [], ◌∷◌, ◌++◌, length, Bool, true, false, cond, if◌then◌else◌, Option, Some, None, Ok, Err, refl, sym, ◌∙◌, ap, subst, append_assoc, arith}
 use Rattle.std.proofs.lemmas.List.Elements.{filter-append}
 use Rattle.dav_machine.specs.Log.{event}
 use Rattle.dav_machine.specs.Devices.{one_device, answers_before}
@@ -8,15 +8,16 @@ use Rattle.dav_text.specs.Path.{PathParts}
 use Rattle.dav_store.specs.Body.{id_of}
 use Rattle.dav_store.specs.declared.body_id.BodyId.{BodyId}
 use Rattle.dav_recorder.specs.Survives.{with_under}
+use Rattle.dav_deeds.specs.Answers.{is_idle, kind_told}
 use Rattle.dav_deeds.specs.DeskTable.{DeskTable}
 use Rattle.dav_deeds.specs.Effects.{told_of, mark_of, effect_unless}
-use Rattle.dav_deeds.specs.Legal.{deed_of, body_unless}
+use Rattle.dav_deeds.specs.Legal.{deed_of, body_unless, new_body}
 use Rattle.dav_deeds.specs.Made.{answer_by}
 use Rattle.dav_deeds.specs.Refusals.{store_refusal}
 use Rattle.dav_deeds.specs.declared.answer.Answer.{Answer}
 use Rattle.dav_deeds.specs.declared.answer.Answer.TheVariants as answers
 use Rattle.dav_deeds.specs.declared.answer.Told.{Told as Said}
-use Rattle.dav_deeds.specs.declared.answer.Told.TheVariants.{Closed, Forgot, Took, Idle, Settled, Stopping}
+use Rattle.dav_deeds.specs.declared.answer.Told.TheVariants.{Closed}
 use Rattle.dav_deeds.specs.declared.ask.Ask.{Ask}
 use Rattle.dav_deeds.specs.declared.ask.Ask.TheVariants.{Store, Forget, Take, Settle, Stop}
 use Rattle.dav_deeds.specs.declared.deed.Deed.{Deed}
@@ -66,13 +67,11 @@ closings_then steps rest under =
     ap closings (with_under_then steps rest under) ∙ filter-append (λ (s : Step). is_closing s.deed s.mark) steps (with_under rest under)
 
 closings_unless : (told : Option Said) (s : Step) → is_closing s.deed s.mark ≡ false → closings (unless_idle told s) ≡ []
-closings_unless None s is = closes_none s is
-closings_unless (Some (Closed body)) s is = closes_none s is
-closings_unless (Some Forgot) s is = closes_none s is
-closings_unless (Some (Took flight)) s is = closes_none s is
-closings_unless (Some Idle) s is = refl
-closings_unless (Some (Settled fated)) s is = closes_none s is
-closings_unless (Some Stopping) s is = closes_none s is
+closings_unless told s is = by (is_idle (kind_told told))
+  where
+    by : (b : Bool) → closings (if b then [] else s ∷ []) ≡ []
+    by true = refl
+    by false = closes_none s is
 
 -- no step but that of a store closes a path
 not_store : (t : DeskTable) (ask : Ask) (mark : Mark) → (IsStore ask → ⊥) → is_closing (deed_of t ask) mark ≡ false
@@ -205,7 +204,7 @@ adds bodies t path bytes met es closed goes = by (goes_one bodies t e es closed 
         (as_closed bodies u es more closed (closed_is ∙ ap (λ (l : List Step). l ++ more) (closings_unless (told_of t 0 (deed_of t (Store path bytes))) (step_by moment) off)) later)
     went_by moment more is closed_is given later (stores none deed mark told) =
         let s : Step = step_by moment in
-        let has : IsBytesOf bodies path bytes s = record { file = t.index.next_file; deed = deed; mark = mark; given = given none } in
+        let has : IsBytesOf bodies path bytes s = record { file = t.index.next_file; deed = deed; mark = mark; given = given (id_of t.index.next_file bytes) (ap new_body deed) } in
         let alone : closings (steps_by Went t e.asked.who 0 (Store path bytes) moment) ≡ s ∷ [] =
         ap (λ (o : Option Said). closings (unless_idle o s)) told ∙ closes_one s [] (is_bytes_closing bodies path bytes s has) in
         closes s more (answers.Closed (id_of t.index.next_file bytes)) (closed_is ∙ ap (λ (l : List Step). l ++ more) alone) has
@@ -218,7 +217,7 @@ adds bodies t path bytes met es closed goes = by (goes_one bodies t e es closed 
         plain fault (as_answer (Stopped fault) is) (as_closed bodies u es [] closed (closed_is ∙ closes_none s off_here) later)
     begun_by fault s is closed_is same given later (stores none deed mark told) =
         let has : IsBytesOf bodies path bytes s =
-        record { file = t.index.next_file; deed = ap (λ (x : Step). x.deed) same ∙ deed; mark = ap (λ (x : Step). x.mark) same ∙ mark; given = given none } in
+        record { file = t.index.next_file; deed = ap (λ (x : Step). x.deed) same ∙ deed; mark = ap (λ (x : Step). x.mark) same ∙ mark; given = given (id_of t.index.next_file bytes) (ap new_body deed) } in
         begins s fault (closed_is ∙ closes_one s [] (is_bytes_closing bodies path bytes s has)) has (as_answer (Stopped fault) is) later
 
     by : GoesOne bodies t e es closed → Adds bodies path bytes u es answered closed

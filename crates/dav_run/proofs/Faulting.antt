@@ -6,7 +6,7 @@ use Rattle.dav_machine.specs.Machine.{Run, run_with, prepend, give}
 use Rattle.dav_text.specs.Path.{PathParts, escaped}
 use Rattle.dav_deeds.specs.DeskTable.{DeskTable}
 use Rattle.dav_upload.specs.Asking.{Asking, Met, Asked, Answered, table_met, answer_met, table_through, Asks}
-use Rattle.dav_upload.specs.Resting.{IsOfShell}
+use Rattle.dav_deeds.specs.Legal.{IsOfShell}
 use Rattle.dav_run.specs.declared.cause.Cause.{Cause}
 use Rattle.dav_run.specs.declared.cause.Cause.TheVariants as causes
 use Rattle.dav_run.specs.Causes.{cause_of}

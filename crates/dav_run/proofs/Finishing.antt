@@ -11,7 +11,7 @@ use Rattle.dav_text.specs.Path.{PathParts}
 use Rattle.dav_uri.specs.Target.{BaseParts}
 use Rattle.dav_deeds.specs.DeskTable.{DeskTable}
 use Rattle.dav_deeds.specs.Effects.{told_of, mark_of, effect_unless, store_effect}
-use Rattle.dav_deeds.specs.Legal.{deed_of, body_unless}
+use Rattle.dav_deeds.specs.Legal.{IsOfShell, deed_of, body_unless}
 use Rattle.dav_deeds.specs.Made.{answer_by}
 use Rattle.dav_deeds.specs.Refusals.{refusal_of, store_refusal}
 use Rattle.dav_deeds.specs.Sound.{IsSound}
@@ -33,7 +33,7 @@ use Rattle.dav_upload.specs.Asking.{Asking, Met, Asked, Answered, table_met, ans
 use Rattle.dav_upload.specs.Drain.{Drained, Drains}
 use Rattle.dav_upload.specs.Pair.{Answers as PairAnswers}
 use Rattle.dav_upload.specs.Backs.{HasPutOf, job_sent}
-use Rattle.dav_upload.specs.Resting.{IsResting, IsOfShell}
+use Rattle.dav_upload.specs.Resting.{IsResting}
 use Rattle.dav_upload.specs.Sent.{AsksBacked, OfJobs, none as no_jobs, PathsDiffer, job_told, jobs_told, bytes_told, step_asked}
 use Rattle.dav_upload.specs.declared.did.UploadFault.TheVariants as uploads
 use Rattle.dav_upload.proofs.Asks.{an_answer, a_fault}

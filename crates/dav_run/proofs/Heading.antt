@@ -31,7 +31,7 @@ use Rattle.dav_desk.specs.Ended.{HasCause}
 use Rattle.dav_desk.specs.Verdict.{Verdict, Went, Stopped, Starved, result_by, table_by}
 use Rattle.dav_desk.specs.Working.{AreGiven}
 use Rattle.dav_desk.specs.declared.desk.Desk.{Desk}
-use Rattle.dav_upload.specs.Asking.{Asked, table_met, answer_met, table_through, steps_through}
+use Rattle.dav_upload.specs.Asking.{Asked, table_met, told_met, answer_met, table_through, steps_through}
 use Rattle.dav_upload.specs.Backs.{Backs}
 use Rattle.dav_upload.specs.Desks.{DiskView, Works, Stops, HasBytesIf, WereAsked}
 use Rattle.dav_upload.specs.Sent.{step_asked, AsksBacked, AllTold, JobGiven}
@@ -150,7 +150,7 @@ module _ {D : Type 0} (view : DiskView D) (url : List ℕ) (opening : DeskTable)
   told_stopped : (bodies : ℕ → List ℕ) (es : List Asked) (t : DeskTable) (fault : DeskFault) → AllStopped fault es → AllTold bodies t es
   told_stopped bodies [] t fault all_stopped = tt
   told_stopped bodies (e ∷ es) t fault all_stopped = (
-    subst (λ (v : Verdict). HasBytesIf bodies (result_by v t e.asked.now e.asked.ask e.answer.bytes)) (sym all_stopped.0) tt,
+    subst (λ (v : Verdict). HasBytesIf bodies (told_met t e.asked) (result_by v t e.asked.now e.asked.ask e.answer.bytes)) (sym all_stopped.0) tt,
     told_stopped bodies es (table_met t e.asked e.answer) fault all_stopped.1,
   )
 
@@ -169,7 +169,7 @@ module _ {D : Type 0} (view : DiskView D) (url : List ℕ) (opening : DeskTable)
       honest_mid : view.honest mid.recorder.disk
       honest_mid = honest_before view es mid z were.2 honest
 
-      answered : HasBytesIf bodies (answer_met x.table e.asked e.answer)
+      answered : HasBytesIf bodies (told_met x.table e.asked) (answer_met x.table e.asked e.answer)
       answered = were.1.bytes honest_mid url opening start bodies works
 
       met : (v : Verdict) → e.answer.verdict ≡ v → mid.table ≡ table_by v x.table e.asked.now e.asked.ask

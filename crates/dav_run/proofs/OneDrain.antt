@@ -6,6 +6,7 @@ use Rattle.dav_machine.specs.Machine.{Run, run_with, prepend, give}
 use Rattle.dav_machine.specs.Part.{lift}
 use Rattle.dav_edge.specs.Device.{Answer as WireAnswer, Happened}
 use Rattle.dav_uri.specs.Target.{BaseParts}
+use Rattle.dav_deeds.specs.Answers.{job_in}
 use Rattle.dav_deeds.specs.DeskTable.{DeskTable}
 use Rattle.dav_deeds.specs.declared.answer.Job.{Job}
 use Rattle.dav_upload.specs.declared.did.Did.TheVariants as did
@@ -14,7 +15,7 @@ use Rattle.dav_upload.specs.Exchange.{Uploads, Uploaded}
 use Rattle.dav_upload.specs.Ending.{Ending, ending_of}
 use Rattle.dav_upload.specs.Asking.{Asking, Answered, answer_met, table_met, Asks}
 use Rattle.dav_upload.specs.Pair.{Made, Answers, pair, the_wire, the_desk}
-use Rattle.dav_upload.specs.Drain.{take_ask, settle_ask, Turned, fault_of, job_in, did_of, JobSends, Settles, Finishes, goes_on, TurnsOf, Drained, drained_by, Drains, last, turn}
+use Rattle.dav_upload.specs.Drain.{take_ask, settle_ask, Turned, fault_of, did_of, JobSends, Settles, Finishes, goes_on, TurnsOf, Drained, drained_by, Drains, last, turn}
 use Rattle.dav_run.proofs.One.{One, AnyResult, one_give, one_then, one_lift, one_calls}
 use Rattle.dav_run.proofs.OneUpload.{UploadFed, one_uploads}
 

@@ -1,14 +1,14 @@
 -- What the asks of a run add to the trace of its desk.
-use Rattle.std.proofs.Common.{◌≡◌, ◌⊎◌, inl, inr, ℕ, List, [], ◌∷◌, ◌++◌, map, Option, Some, None, refl, sym, ◌∙◌, ap, subst, append-nil, append_assoc}
+use Rattle.std.proofs.Common.{◌≡◌, ◌⊎◌, inl, inr, ℕ, Bool, true, false, if◌then◌else◌, List, [], ◌∷◌, ◌++◌, map, Option, Some, None, refl, sym, ◌∙◌, ap, subst, append-nil, append_assoc}
+use Rattle.dav_deeds.specs.Answers.{is_idle, kind_told}
 use Rattle.dav_deeds.specs.DeskTable.{DeskTable}
 use Rattle.dav_deeds.specs.Effects.{told_of}
 use Rattle.dav_deeds.specs.Legal.{IsAsk, Legal, deed_of, table_after}
 use Rattle.dav_deeds.specs.Sound.{IsSound}
 use Rattle.dav_deeds.specs.declared.answer.Told.{Told}
-use Rattle.dav_deeds.specs.declared.answer.Told.TheVariants.{Closed, Forgot, Took, Idle, Settled, Stopping}
 use Rattle.dav_deeds.specs.declared.deed.Step.{Step}
 use Rattle.dav_deeds.specs.declared.fault.DeskFault.{DeskFault}
-use Rattle.dav_deeds.proofs.AllRows.{after_sound}
+use Rattle.dav_deeds.proofs.AllRows.{after_sound, ask_is_deed}
 use Rattle.dav_desk.specs.Ended.{HasCause}
 use Rattle.dav_desk.specs.Ends.{IsEnd}
 use Rattle.dav_desk.specs.Verdict.{Verdict, Went, Stopped, Starved, step_of, unless_idle, steps_by, table_by}
@@ -17,7 +17,6 @@ use Rattle.dav_upload.specs.Asking.{Asked, table_met, table_through, steps_throu
 use Rattle.dav_upload.specs.Desks.{DiskView, WasAsked, WereAsked}
 use Rattle.dav_upload.specs.Sent.{step_asked}
 use Rattle.dav_upload.proofs.AskSteps.{steps_then}
-use Rattle.dav_upload.proofs.ShellAsks.{ask_is_deed}
 use Rattle.dav_run.specs.Asked.{still, IsUnder, IsUnderIf, AllSummed}
 
 -- each of them can be asked of a desk
@@ -193,13 +192,11 @@ traces_table (e ∷ es) t steps under (starved is later) =
     traces_table es t steps under later ∙ ap (λ (v : Verdict). table_through (table_by v t e.asked.now e.asked.ask) es) (sym is)
 
 still_one : (told : Option Told) (s : Step) (rest : List Step) → map still (unless_idle told s ++ rest) ≡ unless_idle told (still s) ++ map still rest
-still_one None s rest = refl
-still_one (Some (Closed body)) s rest = refl
-still_one (Some Forgot) s rest = refl
-still_one (Some (Took flight)) s rest = refl
-still_one (Some Idle) s rest = refl
-still_one (Some (Settled fated)) s rest = refl
-still_one (Some Stopping) s rest = refl
+still_one told s rest = by (is_idle (kind_told told))
+  where
+    by : (b : Bool) → map still ((if b then [] else s ∷ []) ++ rest) ≡ (if b then [] else still s ∷ []) ++ map still rest
+    by true = refl
+    by false = refl
 
 -- but for their moments, the steps are those of the asks
 pub traces_still : (es : List Asked) (t : DeskTable) (steps : List Step) (under : Option Step) → Traces t es steps under → map still steps ≡ steps_through t es

@@ -5,7 +5,7 @@ use Rattle.dav_deeds.specs.declared.deed.Step.{Step}
 use Rattle.dav_deeds.specs.declared.fault.DeskFault.{DeskFault}
 use Rattle.dav_desk.specs.Verdict.{Verdict, Went, Stopped, Starved, step_of}
 use Rattle.dav_desk.specs.Working.{AreGiven}
-use Rattle.dav_upload.specs.Asking.{Asked, answer_met, table_met, table_through}
+use Rattle.dav_upload.specs.Asking.{Asked, told_met, answer_met, table_met, table_through}
 use Rattle.dav_upload.specs.Desks.{HasSumIf}
 
 -- a step without its moment
@@ -33,7 +33,7 @@ GivenBy Went now later = now × later
 GivenBy (Stopped fault) now later = now
 GivenBy Starved now later = later
 
--- the bytes of each store that wasn't refused are given for its file, up to the ask that was stopped
+-- the bytes of each ask are given for the file of its new body, up to the ask that was stopped
 abbrev pub AllGiven : (ℕ → List ℕ) → DeskTable → List Asked → Type 0
 AllGiven given t [] = Unit {0}
 AllGiven given t (e ∷ es) = GivenBy e.answer.verdict (AreGiven t given e.asked.ask) (AllGiven given (table_met t e.asked e.answer) es)
@@ -41,4 +41,4 @@ AllGiven given t (e ∷ es) = GivenBy e.answer.verdict (AreGiven t given e.asked
 -- each job was told with bytes that have the SHA-256 of its body
 abbrev pub AllSummed : DeskTable → List Asked → Type 0
 AllSummed t [] = Unit {0}
-AllSummed t (e ∷ es) = HasSumIf (answer_met t e.asked e.answer) × AllSummed (table_met t e.asked e.answer) es
+AllSummed t (e ∷ es) = HasSumIf (told_met t e.asked) (answer_met t e.asked e.answer) × AllSummed (table_met t e.asked e.answer) es

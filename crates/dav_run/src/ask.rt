@@ -1,11 +1,11 @@
 ghost use Rattle.std.specs.Prelude.{◌≡◌, IfErr, OnOk, true};
-ghost use Rattle.dav_deeds.specs.Legal.{IsAsk};
+ghost use Rattle.dav_deeds.specs.Legal.{IsAsk, IsOfShell};
 ghost use Rattle.dav_deeds.specs.declared.ask.Ask.TheVariants as asks;
 ghost use Rattle.dav_deeds.specs.declared.ask.Who.TheVariants as parties;
 ghost use Rattle.dav_desk.specs.Working.{IsReadied};
 ghost use Rattle.dav_upload.specs.Asking.{asking, Asks};
 ghost use Rattle.dav_upload.specs.Desks.{disk_view};
-ghost use Rattle.dav_upload.specs.Resting.{IsOfShell, IsResting};
+ghost use Rattle.dav_upload.specs.Resting.{IsResting};
 ghost use Rattle.dav_run.specs.Answering.{DoesDesk, HasPath};
 
 use dav_deeds::{Answer, Ask, DeskFault, Who};

@@ -1,9 +1,8 @@
 ghost use Rattle.std.specs.Prelude.{◌≡◌, ◌++◌, ℕ, List, length, Ok, OnOk};
 ghost use Rattle.dav_text.specs.Path.{PathParts, IsPath};
-ghost use Rattle.dav_deeds.specs.Legal.{IsAsk};
+ghost use Rattle.dav_deeds.specs.Legal.{IsAsk, IsOfShell};
 ghost use Rattle.dav_deeds.specs.declared.ask.Ask.TheVariants as asks;
 ghost use Rattle.dav_upload.specs.Desks.{disk_view};
-ghost use Rattle.dav_upload.specs.Resting.{IsOfShell};
 ghost use Rattle.dav_run.specs.Answering.{DoesDesk, DoesLine, HasPath, IsFit, lined_of, said_text};
 ghost use Rattle.dav_run.specs.Causes.{cause_of as cause_of_lem};
 ghost use Rattle.dav_run.specs.Line.{IsPut};

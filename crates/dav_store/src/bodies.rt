@@ -1,8 +1,9 @@
-ghost use Rattle.std.specs.Prelude.{◌≡◌, ◌≢◌, ◌+◌, [], take, OnOk, IfOk, IfErr};
+ghost use Rattle.std.specs.Prelude.{◌≡◌, ◌≢◌, [], take, OnOk, IfOk, IfErr};
 ghost use Rattle.sha2.specs.Sha256.{sha256};
 ghost use Rattle.dav_disk.specs.Disk.{Touches, OthersStay, AllStay, settled};
 ghost use Rattle.dav_store.specs.Body.{IsDamage};
 ghost use Rattle.dav_store.specs.Cause.{IsCaused, OnlyDisk};
+ghost use Rattle.dav_store.specs.Counts.{IsCountedAs};
 ghost use Rattle.dav_store.specs.declared.fault.StoreFault.TheVariants.{Memory as MemoryFault};
 
 use crate::body_id::sum_of;
@@ -31,7 +32,7 @@ impl Bodies {
         ensures seen { D.honest disk.new → OnOk result (D.seen disk.new file ≡ bytes.now) }
         ensures touches { D.honest disk.new → Touches (λ f. f ≡ file) (D.moment disk.old) (D.moment disk.new) (D.past disk.old) (D.past disk.new) }
         ensures others { D.honest disk.new → OthersStay file (D.seen disk.old) (D.seen disk.new) }
-        ensures counts { OnOk result (D.moment disk.new ≡ D.moment disk.old + 3) }
+        ensures counts { IsCountedAs 3 (D.moment disk.old) (D.moment disk.new) result }
         ensures only { OnlyDisk result }
         ensures keeps { D.honest disk.new → D.honest disk.old }
         ensures cause { IsCaused (D.faults disk.old) (D.faults disk.new) result }
@@ -43,15 +44,15 @@ impl Bodies {
     }
 
     /// The bytes of a body: the first `len` of its file, or fewer where the file is shorter. Answers `Damaged` where
-    /// their SHA-256 is not the body's, and `Memory` only before the first device call.
+    /// their SHA-256 is not the body's, whatever the disk is, and `Memory` only before the first device call.
     pub fn fetch<D: Disk>(&mut self, disk: &mut D, id: &BodyId) -> Result<Blob, StoreFault>
         ensures bytes { D.honest disk.new → IfOk result (λ blob. blob ≡ take id.now.len (D.seen disk.old id.now.file)) }
         ensures sum { IfOk result (λ blob. sha256 blob ≡ id.now.sum) }
-        ensures damaged { D.honest disk.new → IfErr result (λ e. IsDamage id.now (take id.now.len (D.seen disk.old id.now.file)) e) }
+        ensures damaged { IfErr result (IsDamage (D.honest disk.new) id.now (D.seen disk.old id.now.file)) }
         ensures starved { IfErr result (λ e. e ≡ MemoryFault → disk.new ≡ disk.old) }
         ensures touches { D.honest disk.new → Touches (λ _. ⊥) (D.moment disk.old) (D.moment disk.new) (D.past disk.old) (D.past disk.new) }
         ensures seen { D.honest disk.new → AllStay (D.seen disk.old) (D.seen disk.new) }
-        ensures counts { OnOk result (D.moment disk.new ≡ D.moment disk.old + 1) }
+        ensures counts { IsCountedAs 1 (D.moment disk.old) (D.moment disk.new) result }
         ensures keeps { D.honest disk.new → D.honest disk.old }
         ensures cause { IsCaused (D.faults disk.old) (D.faults disk.new) result }
     {
@@ -76,7 +77,7 @@ impl Bodies {
         ensures seen { D.honest disk.new → OnOk result (D.seen disk.new file ≡ []) }
         ensures touches { D.honest disk.new → Touches (λ f. f ≡ file) (D.moment disk.old) (D.moment disk.new) (D.past disk.old) (D.past disk.new) }
         ensures others { D.honest disk.new → OthersStay file (D.seen disk.old) (D.seen disk.new) }
-        ensures counts { OnOk result (D.moment disk.new ≡ D.moment disk.old + 2) }
+        ensures counts { IsCountedAs 2 (D.moment disk.old) (D.moment disk.new) result }
         ensures only { OnlyDisk result }
         ensures keeps { D.honest disk.new → D.honest disk.old }
         ensures cause { IsCaused (D.faults disk.old) (D.faults disk.new) result }

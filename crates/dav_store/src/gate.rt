@@ -1,5 +1,6 @@
 ghost use Rattle.std.specs.Prelude.{◌≡◌, ℕ, ◌+◌, ◌≤◌, List, [], ◌∷◌, ◌++◌, length, IsErr, OnOk};
 ghost use Rattle.dav_disk.specs.Disk.{Touches, LeavesOnly, OthersStay, HasCause, settled};
+ghost use Rattle.dav_store.specs.Counts.{IsCountedAs};
 ghost use Rattle.dav_store.specs.Rows.{IsPayload, IsAtRest, IsReady, IsBeforeOrAfter, staged};
 ghost use Rattle.dav_store.specs.Start.{IsNothing};
 
@@ -17,7 +18,7 @@ pub(crate) fn open_row<D: Disk>(disk: &mut D, gate: u64, text: &[u8]) -> Result<
         → LeavesOnly (D.past disk.new) 0 (D.moment disk.old) (D.moment disk.new) (IsBeforeOrAfter rows row) }
     ensures touches { D.honest disk.new → Touches (λ f. f ≡ 0) (D.moment disk.old) (D.moment disk.new) (D.past disk.old) (D.past disk.new) }
     ensures others { D.honest disk.new → OthersStay 0 (D.seen disk.old) (D.seen disk.new) }
-    ensures counts { OnOk result (D.moment disk.new ≡ D.moment disk.old + 4) }
+    ensures counts { IsCountedAs 4 (D.moment disk.old) (D.moment disk.new) result }
     ensures keeps { D.honest disk.new → D.honest disk.old }
     ensures cause { HasCause (D.faults disk.old) (D.faults disk.new) result }
 {
@@ -35,6 +36,7 @@ pub(crate) fn close_gate<D: Disk>(disk: &mut D) -> Result<(), Failed>
         → OnOk result (IsAtRest [] 0 (D.seen disk.new 0) (D.past disk.new (D.moment disk.new) 0)) }
     ensures any_moment { D.honest disk.new → length (D.seen disk.old 0) ≤ 1 → D.past disk.old (D.moment disk.old) 0 ≡ settled (D.seen disk.old 0)
         → LeavesOnly (D.past disk.new) 0 (D.moment disk.old) (D.moment disk.new) IsNothing }
+    ensures counts { IsCountedAs 2 (D.moment disk.old) (D.moment disk.new) result }
     ensures touches { D.honest disk.new → Touches (λ f. f ≡ 0) (D.moment disk.old) (D.moment disk.new) (D.past disk.old) (D.past disk.new) }
     ensures others { D.honest disk.new → OthersStay 0 (D.seen disk.old) (D.seen disk.new) }
     ensures keeps { D.honest disk.new → D.honest disk.old }

@@ -1,6 +1,7 @@
 ghost use Rattle.std.specs.Prelude.{◌≡◌, ℕ, ◌+◌, ◌≤◌, min, List, [], ◌∷◌, ◌++◌, length, drop, is_ok, is_some, vec_capacity, IsNone, IfSome, IfOk, IfErr, OnOk, if◌then◌else◌};
 ghost use Rattle.dav_disk.specs.Disk.{Touches, LeavesOnly, OthersStay, AllStay};
 ghost use Rattle.dav_store.specs.Cause.{IsCaused, OnlyDisk, IsNoDamage};
+ghost use Rattle.dav_store.specs.Counts.{IsCountedAs};
 ghost use Rattle.dav_store.specs.Rows.{IsPayload, IsClosed, HasRow, IsBroken, IsReading, IsAtRest, IsReady, IsBeforeOrAfter};
 ghost use Rattle.dav_store.specs.declared.fault.StoreFault.TheVariants.{NotACache};
 
@@ -79,6 +80,7 @@ impl Journal {
         ensures seen { D.honest disk.new → AllStay (D.seen disk.old) (D.seen disk.new) }
         ensures keeps { D.honest disk.new → D.honest disk.old }
         ensures cause { IsCaused (D.faults disk.old) (D.faults disk.new) result }
+        ensures moments { D.moment disk.old ≤ D.moment disk.new }
         ensures undamaged { IfErr result IsNoDamage }
         ensures rows { IfOk result (λ o. journal_rows self.new ≡ (if is_some o then min (journal_rows self.old + 1) 18446744073709551615 else journal_rows self.old)) }
         ensures head { journal_head self.new ≡ journal_head self.old }
@@ -116,7 +118,7 @@ impl Journal {
         ensures ready { D.honest disk.new → OnOk result (IsReady (journal_end self.new) (D.seen disk.new 0) (D.past disk.new (D.moment disk.new) 0)) }
         ensures touches { D.honest disk.new → Touches (λ f. f ≡ 0) (D.moment disk.old) (D.moment disk.new) (D.past disk.old) (D.past disk.new) }
         ensures others { D.honest disk.new → OthersStay 0 (D.seen disk.old) (D.seen disk.new) }
-        ensures counts { OnOk result (D.moment disk.new ≡ D.moment disk.old + 4) }
+        ensures counts { IsCountedAs 4 (D.moment disk.old) (D.moment disk.new) result }
         ensures only { OnlyDisk result }
         ensures keeps { D.honest disk.new → D.honest disk.old }
         ensures cause { IsCaused (D.faults disk.old) (D.faults disk.new) result }

@@ -1,4 +1,4 @@
-ghost use Rattle.std.specs.Prelude.{◌≡◌, ℕ, ◌+◌, ◌<◌, take, drop, length, IsNone, IfSome, IfOk, IfErr};
+ghost use Rattle.std.specs.Prelude.{◌≡◌, ℕ, ◌+◌, ◌<◌, ◌≤◌, take, drop, length, IsNone, IfSome, IfOk, IfErr};
 ghost use Rattle.dav_disk.specs.Disk.{Touches, AllStay};
 ghost use Rattle.dav_store.specs.Rows.{IsClosed, HasRow, IsBroken};
 ghost use Rattle.dav_store.specs.Cause.{IsCaused, IsNoDamage};
@@ -23,6 +23,7 @@ pub(crate) fn row_at<D: Disk>(
     ensures seen { D.honest disk.new → AllStay (D.seen disk.old) (D.seen disk.new) }
     ensures keeps { D.honest disk.new → D.honest disk.old }
     ensures cause { IsCaused (D.faults disk.old) (D.faults disk.new) result }
+    ensures moments { D.moment disk.old ≤ D.moment disk.new }
     ensures undamaged { IfErr result IsNoDamage }
 {
     let mut bytes = [0u8; 3];
@@ -50,6 +51,7 @@ fn payload_of<D: Disk>(
     ensures seen { D.honest disk.new → AllStay (D.seen disk.old) (D.seen disk.new) }
     ensures keeps { D.honest disk.new → D.honest disk.old }
     ensures cause { IsCaused (D.faults disk.old) (D.faults disk.new) result }
+    ensures moments { D.moment disk.old ≤ D.moment disk.new }
     ensures undamaged { IfErr result IsNoDamage }
 {
     let mut payload = Vec::from_elem(alloc, 0u8, len)?;

@@ -35,6 +35,7 @@ fn look<D: Disk>(disk: &mut D) -> Result<Found, Failed>
     ensures touches { D.honest disk.new → Touches (λ f. f ≡ 0) (D.moment disk.old) (D.moment disk.new) (D.past disk.old) (D.past disk.new) }
     ensures seen { D.honest disk.new → AllStay (D.seen disk.old) (D.seen disk.new) }
     ensures keeps { D.honest disk.new → D.honest disk.old }
+    ensures moments { D.moment disk.old ≤ D.moment disk.new }
     ensures cause { HasCause (D.faults disk.old) (D.faults disk.new) result }
 {
     disk.sync(0)?;
@@ -67,6 +68,7 @@ fn ready_gate<D: Disk>(disk: &mut D, closed: bool) -> Result<(), Failed>
     ensures touches { D.honest disk.new → Touches (λ f. f ≡ 0) (D.moment disk.old) (D.moment disk.new) (D.past disk.old) (D.past disk.new) }
     ensures others { D.honest disk.new → OthersStay 0 (D.seen disk.old) (D.seen disk.new) }
     ensures keeps { D.honest disk.new → D.honest disk.old }
+    ensures moments { D.moment disk.old ≤ D.moment disk.new }
     ensures cause { HasCause (D.faults disk.old) (D.faults disk.new) result }
 {
     if closed {
@@ -99,6 +101,7 @@ impl Journal {
         ensures rows { IfOk result (λ j. journal_rows j ≡ 1) }
         ensures keeps { D.honest disk.new → D.honest disk.old }
         ensures cause { IsCaused (D.faults disk.old) (D.faults disk.new) result }
+        ensures moments { D.moment disk.old ≤ D.moment disk.new }
         ensures undamaged { IfErr result IsNoDamage }
     {
         let journal = Journal::blank(alloc, head)?;
@@ -130,6 +133,7 @@ impl Journal {
         ensures only { IfErr result (λ e. (at : ℕ) → e ≡ NotACache at → ⊥) }
         ensures keeps { D.honest disk.new → D.honest disk.old }
         ensures cause { IsCaused (D.faults disk.old) (D.faults disk.new) result }
+        ensures moments { D.moment disk.old ≤ D.moment disk.new }
         ensures undamaged { IfErr result IsNoDamage }
     {
         ready_gate(disk, closed)?;
@@ -151,6 +155,7 @@ impl Journal {
         ensures rows { IfOk result (λ j. journal_rows j ≡ 1) }
         ensures keeps { D.honest disk.new → D.honest disk.old }
         ensures cause { IsCaused (D.faults disk.old) (D.faults disk.new) result }
+        ensures moments { D.moment disk.old ≤ D.moment disk.new }
         ensures undamaged { IfErr result IsNoDamage }
     {
         match self.next_row(disk) {

@@ -1,28 +1,29 @@
 -- The requests behind asks of a desk stand behind the steps that the asks are.
-use Rattle.std.proofs.Common.{◌≡◌, ◌⊎◌, inl, inr, ℕ, List, [], ◌∷◌, ◌++◌, Option, Some, None, refl, sym, subst, append_assoc, append-nil}
+use Rattle.std.proofs.Common.{◌≡◌, ◌⊎◌, inl, inr, ℕ, Bool, true, false, if◌then◌else◌, List, [], ◌∷◌, ◌++◌, Option, Some, None, refl, sym, ◌∙◌, ap, subst, append_assoc, append-nil}
 use Rattle.dav_edge.specs.Connections.{Connections, connection, with_standing, all_of, after_calls}
 use Rattle.dav_edge.specs.Device.{Happened}
 use Rattle.dav_uri.specs.Target.{BaseParts}
+use Rattle.dav_deeds.specs.Answers.{Kind, Tells, Gives, Idles, Ends, job_by, job_of_kind, kind_of, kind_told, wanted}
 use Rattle.dav_deeds.specs.DeskTable.{DeskTable}
-use Rattle.dav_deeds.specs.Effects.{Effect, take_effect, taken, settle_effect, effect_done, effect_unless, mark_of}
+use Rattle.dav_deeds.proofs.AllRows.{given_is, job_after}
+use Rattle.dav_deeds.proofs.Rows.{job_answered, wanted_told}
+use Rattle.dav_deeds.specs.Effects.{after, mark_of, told_of}
+use Rattle.dav_deeds.specs.Fate.{tells_sent}
 use Rattle.dav_deeds.specs.Legal.{deed_of}
 use Rattle.dav_deeds.specs.Made.{answer_by}
-use Rattle.dav_deeds.specs.Refusals.{refusal_of}
 use Rattle.dav_deeds.specs.declared.answer.Flight.{Flight}
-use Rattle.dav_deeds.specs.declared.ask.Done.{Done}
-use Rattle.dav_deeds.specs.declared.ask.Done.TheVariants as ends
+use Rattle.dav_deeds.specs.declared.answer.Job.{Job}
+use Rattle.dav_deeds.specs.declared.answer.Told.{Told}
 use Rattle.dav_deeds.specs.declared.deed.Deed.{Deed}
-use Rattle.dav_deeds.specs.declared.deed.Deed.TheVariants as deeds
 use Rattle.dav_deeds.specs.declared.deed.Mark.{Mark}
-use Rattle.dav_deeds.specs.declared.deed.Mark.TheVariants as marks
 use Rattle.dav_deeds.specs.declared.deed.Step.{Step}
 use Rattle.dav_deeds.specs.declared.fault.DeskFault.{DeskFault}
 use Rattle.dav_desk.specs.Verdict.{Verdict, Went, Stopped, Starved, with_bytes, result_by, steps_by, table_by}
-use Rattle.dav_upload.specs.Asking.{Asked, answer_met, table_met, steps_met, table_through, steps_through}
+use Rattle.dav_upload.specs.Asking.{Answered, Asked, told_met, answer_met, table_met, steps_met, table_through, steps_through}
 use Rattle.dav_upload.specs.Backs.{HasPut, HasPutOf, job_sent, Backs}
 use Rattle.dav_upload.specs.Desks.{HasBytesIf}
 use Rattle.dav_upload.specs.Exchange.{put_text}
-use Rattle.dav_upload.specs.Sent.{bytes_told, step_asked, AsksBacked, AllTold, JobGiven}
+use Rattle.dav_upload.specs.Sent.{bytes_or, bytes_told, step_asked, AsksBacked, AllTold, JobGiven}
 use Rattle.dav_upload.proofs.AskSteps.{steps_then}
 use Rattle.dav_upload.proofs.Backing.{backs_ahead}
 
@@ -40,17 +41,11 @@ put_again base given bytes flight events same put = record {
 }
 
 job_or_none : (job : Option Flight) (deed : Deed) (mark : Mark) → (job_sent job deed mark ≡ job) ⊎ (job_sent job deed mark ≡ None)
-job_or_none job (deeds.Store path len body) mark = inr refl
-job_or_none job (deeds.Forget path locks below) mark = inr refl
-job_or_none job deeds.Take mark = inr refl
-job_or_none job deeds.Stop mark = inr refl
-job_or_none job (deeds.Settle number (ends.Again seconds)) mark = inr refl
-job_or_none job (deeds.Settle number ends.Refused) mark = inr refl
-job_or_none job (deeds.Settle number (ends.Sent seen)) marks.Plain = inl refl
-job_or_none job (deeds.Settle number (ends.Sent seen)) (marks.Refused fault) = inr refl
-job_or_none job (deeds.Settle number (ends.Sent seen)) (marks.Body id) = inr refl
-job_or_none job (deeds.Settle number (ends.Sent seen)) (marks.Job other) = inr refl
-job_or_none job (deeds.Settle number (ends.Sent seen)) (marks.LostAs lost) = inr refl
+job_or_none job deed mark = by (tells_sent deed mark)
+  where
+    by : (b : Bool) → ((if b then job else None) ≡ job) ⊎ ((if b then job else None) ≡ None)
+    by true = inl refl
+    by false = inr refl
 
 put_of_again : (base : BaseParts) (given : ℕ → List ℕ) (bytes : List ℕ) (job : Option Flight) (deed : Deed) (mark : Mark) (events : List Happened) → JobGiven given bytes job → HasPutOf base (λ file. bytes) (job_sent job deed mark) events
     → HasPutOf base given (job_sent job deed mark) events
@@ -65,37 +60,39 @@ put_of_again base given bytes job deed mark events same put = by (job_or_none jo
     by (inr is) = subst (λ (o : Option Flight). HasPutOf base given o events) (sym is) tt
 
 -- the bytes that an answer tells are those of the job in flight then
-abbrev GivenAfter : (ℕ → List ℕ) → List ℕ → List ℕ → Effect → Type 0
-GivenAfter given bytes told e = HasBytesIf given (with_bytes (answer_by e.mark e.told) told) → JobGiven given (bytes_told bytes (with_bytes (answer_by e.mark e.told) told)) e.job
+module _ (given : ℕ → List ℕ) (bytes told : List ℕ) (t : DeskTable) (now : ℕ) (deed : Deed) (same : JobGiven given bytes t.job) where
+  abbrev answered : Option Told → Answered
+  answered o = with_bytes (answer_by (mark_of t now deed) o) told
 
-take_given : (given : ℕ → List ℕ) (bytes told : List ℕ) (t : DeskTable) (found : Option Flight) → JobGiven given bytes t.job → GivenAfter given bytes told (take_effect t found)
-take_given given bytes told t None same = λ has. same
-take_given given bytes told t (Some flight) same = λ has. has
+  flies : (o : Option Told) (k : Kind) → told_of t now deed ≡ o → kind_told o ≡ k → (after t now deed).job ≡ job_by t.job k
+  flies o k is kind = job_after t now deed ∙ ap (λ (p : Option Told). job_by t.job (kind_told p)) is ∙ ap (job_by t.job) kind
 
-settle_given : (given : ℕ → List ℕ) (bytes told : List ℕ) (t : DeskTable) (now : ℕ) (done : Done) (found : Option Flight) → JobGiven given bytes t.job → GivenAfter given bytes told (settle_effect t found now done)
-settle_given given bytes told t now done None same = λ has. same
-settle_given given bytes told t now done (Some flight) same = λ has. tt
+  by_kind : (a : Told) (k : Kind) → told_of t now deed ≡ Some a → kind_of a ≡ k → HasBytesIf given (Some a) (answered (Some a)) → JobGiven given (bytes_or bytes (job_of_kind k told)) (job_by t.job k)
+  by_kind a Tells is kind has = same
+  by_kind a Idles is kind has = same
+  by_kind a Ends is kind has = tt
+  by_kind a (Gives flight) is kind has =
+      let gives = given_is t now deed flight (ap kind_told is ∙ kind) in
+      let wants : wanted (Some a) ≡ Some flight.body = ap wanted (sym is ∙ gives.told_is) in
+      sym (wanted_told a told flight.body wants) ∙ has flight.body wants
 
-done_given : (given : ℕ → List ℕ) (bytes told : List ℕ) (t : DeskTable) (now : ℕ) (deed : Deed) → JobGiven given bytes t.job → GivenAfter given bytes told (effect_done t now deed)
-done_given given bytes told t now (deeds.Store path len None) same = λ has. same
-done_given given bytes told t now (deeds.Store path len (Some id)) same = λ has. same
-done_given given bytes told t now (deeds.Forget path locks below) same = λ has. same
-done_given given bytes told t now deeds.Take same = take_given given bytes told t (taken t now) same
-done_given given bytes told t now (deeds.Settle number done) same = settle_given given bytes told t now done t.job same
-done_given given bytes told t now deeds.Stop same = λ has. same
+  by_told : (o : Option Told) → told_of t now deed ≡ o → HasBytesIf given o (answered o) → JobGiven given (bytes_told bytes (answered o)) (after t now deed).job
+  by_told None is has = subst (JobGiven given bytes) (sym (flies None Tells is refl)) same
+  by_told (Some a) is has =
+      subst (λ (job : Option Job). JobGiven given (bytes_or bytes job) (after t now deed).job) (sym (job_answered a told))
+      (subst (JobGiven given (bytes_or bytes (job_of_kind (kind_of a) told))) (sym (flies (Some a) (kind_of a) is refl)) (by_kind a (kind_of a) is refl has))
 
-unless_given : (given : ℕ → List ℕ) (bytes told : List ℕ) (t : DeskTable) (now : ℕ) (deed : Deed) (refusal : Option DeskFault) → JobGiven given bytes t.job → GivenAfter given bytes told (effect_unless refusal t now deed)
-unless_given given bytes told t now deed None same = done_given given bytes told t now deed same
-unless_given given bytes told t now deed (Some fault) same = λ has. same
+  pub deed_given : HasBytesIf given (told_of t now deed) (answered (told_of t now deed)) → JobGiven given (bytes_told bytes (answered (told_of t now deed))) (after t now deed).job
+  deed_given has = by_told (told_of t now deed) refl has
 
-job_given : (given : ℕ → List ℕ) (bytes : List ℕ) (t : DeskTable) (e : Asked) → JobGiven given bytes t.job → HasBytesIf given (answer_met t e.asked e.answer) → JobGiven given (bytes_told bytes (answer_met t e.asked e.answer)) (table_met t e.asked e.answer).job
+job_given : (given : ℕ → List ℕ) (bytes : List ℕ) (t : DeskTable) (e : Asked) → JobGiven given bytes t.job → HasBytesIf given (told_met t e.asked) (answer_met t e.asked e.answer) → JobGiven given (bytes_told bytes (answer_met t e.asked e.answer)) (table_met t e.asked e.answer).job
 job_given given bytes t e same has = by e.answer.verdict has
   where
     deed : Deed
     deed = deed_of t e.asked.ask
 
-    by : (v : Verdict) → HasBytesIf given (result_by v t e.asked.now e.asked.ask e.answer.bytes) → JobGiven given (bytes_told bytes (result_by v t e.asked.now e.asked.ask e.answer.bytes)) (table_by v t e.asked.now e.asked.ask).job
-    by Went h = unless_given given bytes e.answer.bytes t e.asked.now deed (refusal_of t deed) same h
+    by : (v : Verdict) → HasBytesIf given (told_of t e.asked.now deed) (result_by v t e.asked.now e.asked.ask e.answer.bytes) → JobGiven given (bytes_told bytes (result_by v t e.asked.now e.asked.ask e.answer.bytes)) (table_by v t e.asked.now e.asked.ask).job
+    by Went h = deed_given given bytes e.answer.bytes t e.asked.now deed same h
     by (Stopped fault) h = same
     by Starved h = same
 

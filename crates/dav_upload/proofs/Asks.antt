@@ -2,15 +2,16 @@
 use Rattle.std.proofs.Common.{◌≡◌, ◌≢◌, ℕ, ◌≤◌, List, [], ◌∷◌, ◌++◌, Option, Some, None, Ok, Err, IfOk, Bool, true, if◌then◌else◌, nat_eq, refl, sym, ◌∙◌, ap, subst, arith}
 use Rattle.std.proofs.lemmas.Bool.Decides.{nat_tests}
 use Rattle.dav_deeds.specs.DeskTable.{DeskTable}
-use Rattle.dav_deeds.specs.Answers.{job_of}
-use Rattle.dav_deeds.specs.Legal.{IsAsk}
-use Rattle.dav_deeds.specs.Effects.{Effect, take_effect, taken, changed, effect_of, effect_unless, settle_effect, fated_of}
+use Rattle.dav_deeds.specs.Answers.{job_in, job_of}
+use Rattle.dav_deeds.specs.Legal.{IsAsk, deed_of}
+use Rattle.dav_deeds.specs.Effects.{Effect, told_of, take_effect, taken, changed, effect_of, effect_unless, settle_effect, fated_of}
 use Rattle.dav_deeds.specs.Made.{answer_by}
 use Rattle.dav_deeds.specs.Refusals.{job_fault}
 use Rattle.dav_deeds.specs.declared.answer.Answer.{Answer}
 use Rattle.dav_deeds.specs.declared.answer.Answer.TheVariants as answers
 use Rattle.dav_deeds.specs.declared.answer.Flight.{Flight}
 use Rattle.dav_deeds.specs.declared.answer.Job.{Job}
+use Rattle.dav_deeds.specs.declared.answer.Told.{Told}
 use Rattle.dav_deeds.specs.declared.ask.Ask.{Ask}
 use Rattle.dav_deeds.specs.declared.ask.Ask.TheVariants.{Take, Settle}
 use Rattle.dav_deeds.specs.declared.ask.Done.{Done}
@@ -27,30 +28,30 @@ use Rattle.dav_upload.specs.declared.did.UploadFault.TheVariants as faults
 use Rattle.dav_upload.specs.Ending.{flight_in}
 use Rattle.dav_upload.specs.Asking.{Asked, Answered, Met, answer_met}
 use Rattle.dav_upload.specs.Desks.{DiskView, Works, Stops, HasBytesIf, HasSumIf, WereAsked, AskedSo}
-use Rattle.dav_upload.specs.Drain.{take_ask, fault_of, job_in}
+use Rattle.dav_upload.specs.Drain.{take_ask, fault_of}
 
 -- asks one after another, and others behind them
 pub were_then : {D : Type 0} (view : DiskView D) (es fs : List Asked) (x y z : Desk D) → WereAsked view es x y → WereAsked view fs y z → WereAsked view (es ++ fs) x z
 were_then {D} view [] fs x y z same more = subst (λ (d : Desk D). WereAsked view fs d z) same more
 were_then {D} view (e ∷ es) fs x y z were more = (were.0, were.1, were_then view es fs were.0 y z were.2 more)
 
-pub bytes_so : {D : Type 0} (view : DiskView D) (x : Desk D) (result : Answered)
-    → IfOk result (λ answer. (url : List ℕ) (opening : DeskTable) (start : ℕ) (given : ℕ → List ℕ) → Works view url opening start given x → HasBytes given answer)
-    → (url : List ℕ) (opening : DeskTable) (start : ℕ) (given : ℕ → List ℕ) → Works view url opening start given x → HasBytesIf given result
-bytes_so view x (Ok answer) has url opening start given working = has url opening start given working
-bytes_so view x (Err fault) has url opening start given working = tt
+pub bytes_so : {D : Type 0} (view : DiskView D) (x : Desk D) (told : Option Told) (result : Answered)
+    → IfOk result (λ answer. (url : List ℕ) (opening : DeskTable) (start : ℕ) (given : ℕ → List ℕ) → Works view url opening start given x → HasBytes given told answer)
+    → (url : List ℕ) (opening : DeskTable) (start : ℕ) (given : ℕ → List ℕ) → Works view url opening start given x → HasBytesIf given told result
+bytes_so view x told (Ok answer) has url opening start given working = has url opening start given working
+bytes_so view x told (Err fault) has url opening start given working = tt
 
-pub sums_so : (result : Answered) → IfOk result HasSum → HasSumIf result
-sums_so (Ok answer) has = has
-sums_so (Err fault) has = tt
+pub sums_so : (told : Option Told) (result : Answered) → IfOk result (HasSum told) → HasSumIf told result
+sums_so told (Ok answer) has = has
+sums_so told (Err fault) has = tt
 
 -- what a step of the desk says of an ask
 pub asked_so : {D : Type 0} (view : DiskView D) (now : ℕ) (ask : Ask) (x y : Desk D) (result : Answered)
     → IsAsk ask → IsAsked view.honest view.moment view.seen view.faults Uploader now ask x y result
     → (view.honest y.recorder.disk → (url : List ℕ) (opening : DeskTable) (start : ℕ) (given : ℕ → List ℕ) → AreGiven x.table given ask → Works view url opening start given x → y.recorder.dead ≡ None → Works view url opening start given y)
     → (view.honest y.recorder.disk → (url : List ℕ) (opening : DeskTable) (start : ℕ) (given : ℕ → List ℕ) → AreGiven x.table given ask → Works view url opening start given x → y.recorder.dead ≢ None → Stops view url opening start given y)
-    → (view.honest y.recorder.disk → IfOk result (λ answer. (url : List ℕ) (opening : DeskTable) (start : ℕ) (given : ℕ → List ℕ) → Works view url opening start given x → HasBytes given answer))
-    → IfOk result HasSum → (view.honest y.recorder.disk → view.honest x.recorder.disk) → view.faults x.recorder.disk ≤ view.faults y.recorder.disk
+    → (view.honest y.recorder.disk → IfOk result (λ answer. (url : List ℕ) (opening : DeskTable) (start : ℕ) (given : ℕ → List ℕ) → Works view url opening start given x → HasBytes given (told_of x.table now (deed_of x.table ask)) answer))
+    → IfOk result (HasSum (told_of x.table now (deed_of x.table ask))) → (view.honest y.recorder.disk → view.honest x.recorder.disk) → view.faults x.recorder.disk ≤ view.faults y.recorder.disk
     → AskedSo view now ask x y result
 asked_so view now ask x y result is_ask asked working stopped bytes sum keeps no_fewer = record {
   met = record { verdict = asked.verdict; bytes = asked.bytes };
@@ -62,8 +63,8 @@ asked_so view now ask x y result is_ask asked working stopped bytes sum keeps no
     working = working;
     stopped = stopped;
     bytes = λ honest url opening start given works.
-        subst (HasBytesIf given) asked.answer (bytes_so view x result (bytes honest) url opening start given works);
-    sums = subst HasSumIf asked.answer (sums_so result sum);
+        subst (HasBytesIf given (told_of x.table now (deed_of x.table ask))) asked.answer (bytes_so view x (told_of x.table now (deed_of x.table ask)) result (bytes honest) url opening start given works);
+    sums = subst (HasSumIf (told_of x.table now (deed_of x.table ask))) asked.answer (sums_so (told_of x.table now (deed_of x.table ask)) result sum);
     keeps = keeps;
     no_fewer = no_fewer;
   };

@@ -1,12 +1,16 @@
 -- What a run of one turn is made of.
-use Rattle.std.proofs.Common.{◌≡◌, ℕ, List, [], ◌∷◌, ◌++◌, Option, Some, Ok, Err, refl, ◌∙◌, ap, subst, append-nil}
+use Rattle.std.proofs.Common.{◌≡◌, ℕ, List, [], ◌∷◌, ◌++◌, Option, Some, None, Ok, Err, sym, refl, ◌∙◌, ap, subst, append-nil}
 use Rattle.dav_machine.specs.Log.{event}
 use Rattle.dav_machine.specs.Devices.{one_device}
 use Rattle.dav_machine.specs.Machine.{Run, run_with, prepend, give}
 use Rattle.dav_machine.specs.Part.{lift, lifted_run}
 use Rattle.dav_edge.specs.Device.{Happened, Answer as WireAnswer}
 use Rattle.dav_uri.specs.Target.{BaseParts}
+use Rattle.std.specs.Option.{option_to_list}
+use Rattle.dav_deeds.specs.Answers.{job_in}
 use Rattle.dav_deeds.specs.DeskTable.{DeskTable}
+use Rattle.dav_deeds.specs.declared.answer.Answer.{Answer}
+use Rattle.dav_deeds.proofs.Rows.{answer_given}
 use Rattle.dav_deeds.specs.declared.answer.Answer.TheVariants as answers
 use Rattle.dav_deeds.specs.declared.answer.Job.{Job}
 use Rattle.dav_upload.specs.declared.came.Came.{Came}
@@ -127,12 +131,11 @@ finish_run base now job u left run does =
 after_take : (base : BaseParts) (now : ℕ) (answered : Answered) (u : DeskTable) (left : Answers) (run : TurnRun) → goes_on base now answered u left run → AfterTake base now answered u run
 after_take base now (Err fault) u left run does =
     none (Err (fault_of fault)) refl (ap (λ (r : TurnRun). r.made) does) (ap (λ (r : TurnRun). r.result.1) does) (ap (λ (r : TurnRun). drained_by r.result.0) does)
-after_take base now (Ok (answers.Closed body)) u left run does = nothing_done base now (Ok (answers.Closed body)) u left run refl does
-after_take base now (Ok answers.Forgot) u left run does = nothing_done base now (Ok answers.Forgot) u left run refl does
-after_take base now (Ok (answers.Took job)) u left run does = finish_run base now job u left run does
-after_take base now (Ok answers.Idle) u left run does = nothing_done base now (Ok answers.Idle) u left run refl does
-after_take base now (Ok (answers.Settled fated)) u left run does = nothing_done base now (Ok (answers.Settled fated)) u left run refl does
-after_take base now (Ok answers.Stopping) u left run does = nothing_done base now (Ok answers.Stopping) u left run refl does
+after_take base now (Ok answer) u left run does = by (job_in answer) refl does
+  where
+    by : (found : Option Job) → job_in answer ≡ found → Finishes base now u found left run → AfterTake base now (Ok answer) u run
+    by None is nothing = nothing_done base now (Ok answer) u left run (ap option_to_list is) nothing
+    by (Some job) is some = subst (λ (a : Answer). AfterTake base now (Ok a) u run) (sym (answer_given answer job is)) (finish_run base now job u left run some)
 
 -- A turn is a take and what is behind it.
 pub record OneTurn (base : BaseParts) (now : ℕ) (t : DeskTable) (run : TurnRun) : Type 0 where

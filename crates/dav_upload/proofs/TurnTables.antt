@@ -16,6 +16,7 @@ use Rattle.dav_index.specs.Queries.{is_due, next_due}
 use Rattle.dav_index.specs.Bounds.{HasBody}
 use Rattle.dav_index.specs.declared.entry.Entry.{Entry}
 use Rattle.dav_index.specs.declared.entry.Waiting.{Waiting}
+use Rattle.dav_deeds.specs.Answers.{job_in}
 use Rattle.dav_deeds.specs.DeskTable.{DeskTable}
 use Rattle.dav_deeds.specs.Effects.{take_effect, taken, taken_beside, flight_of, flight_with, next_job, changed, settle_effect, settle_by_fate, fated_of, fated_current, fated_again, is_current, waiting_at, waiting_of, waiting_in, moment, pause, waited}
 use Rattle.dav_deeds.specs.Answers.{job_of}
@@ -48,7 +49,7 @@ use Rattle.dav_upload.specs.declared.did.UploadFault.TheVariants as faults
 use Rattle.dav_upload.specs.Ending.{flight_in}
 use Rattle.dav_upload.specs.Asking.{Answered}
 use Rattle.dav_upload.specs.Desks.{DiskView, AskedSo}
-use Rattle.dav_upload.specs.Drain.{Turned, fault_of, job_in, did_of, SentSo, starved, settled, TurnSo, idle, stopped, took}
+use Rattle.dav_upload.specs.Drain.{Turned, fault_of, did_of, SentSo, starved, settled, TurnSo, idle, stopped, took}
 use Rattle.dav_upload.proofs.Asks.{an_answer, a_fault, a_job, same_answer, took_facts, take_flies, settle_answers, settle_effect_is}
 use Rattle.dav_upload.proofs.SentJobs.{sends_noted}
 

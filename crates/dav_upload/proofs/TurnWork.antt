@@ -1,10 +1,12 @@
 -- What a turn leaves of a desk on a disk that keeps the model.
-use Rattle.std.proofs.Common.{◌≡◌, ◌⊎◌, inl, inr, ℕ, ◌≤◌, List, [], ◌∷◌, ◌++◌, Option, Some, None, Result, Ok, Err, refl, sym, ◌∙◌, ap, subst, append-nil}
+use Rattle.std.proofs.Common.{◌≡◌, ◌⊎◌, inl, inr, ℕ, ◌≤◌, Bool, true, false, if◌then◌else◌, List, [], ◌∷◌, ◌++◌, Option, Some, None, Result, Ok, Err, refl, sym, ◌∙◌, ap, subst, append-nil}
 use Rattle.dav_disk.specs.Disk.{MightLeave}
 use Rattle.dav_machine.specs.Log.{event}
 use Rattle.dav_machine.proofs.Logs.{grows_then, grows_same}
 use Rattle.dav_edge.specs.Device.{Happened, DeviceLog, Grew, is_failure}
 use Rattle.dav_uri.specs.Target.{BaseParts}
+use Rattle.dav_store.specs.declared.body_id.BodyId.{BodyId}
+use Rattle.dav_deeds.specs.Answers.{is_idle, kind_told}
 use Rattle.dav_deeds.specs.DeskTable.{DeskTable}
 use Rattle.dav_deeds.specs.Effects.{take_effect, changed, told_of}
 use Rattle.dav_deeds.specs.Legal.{deed_of, table_after}
@@ -31,9 +33,9 @@ use Rattle.dav_upload.specs.Backs.{HasPutOf, job_sent}
 use Rattle.dav_upload.specs.Ending.{flight_in}
 use Rattle.dav_upload.specs.Turns.{Backed}
 use Rattle.dav_upload.specs.Outlives.{Outlives}
-use Rattle.dav_upload.specs.Asking.{asking, Answered, Met}
+use Rattle.dav_upload.specs.Asking.{asking, Answered, Met, told_met}
 use Rattle.dav_upload.specs.Desks.{DiskView, HasBytesIf, WasAsked, AskedSo}
-use Rattle.dav_upload.specs.Drain.{Turned, did_of, SentSo, starved, settled, TurnSo, idle, stopped, took}
+use Rattle.dav_upload.specs.Drain.{take_ask, Turned, did_of, SentSo, starved, settled, TurnSo, idle, stopped, took}
 use Rattle.dav_upload.specs.AtWork.{IsAtWork, IsAtEnd, IsAfter, AllOutlive}
 use Rattle.dav_upload.proofs.Asks.{an_answer, a_fault, took_facts, take_answers, take_flies, settle_answers, end_is_desk}
 use Rattle.dav_upload.proofs.Backing.{backs_push, backs_more}
@@ -58,13 +60,11 @@ backed_more base bodies t steps old mid new part backed grew = record {
 }
 
 by_told : (P : List Step → Type 0) (told : Option Told) (s : Step) → P [] → P (s ∷ []) → P (unless_idle told s)
-by_told P None s none one = one
-by_told P (Some (tells.Closed body)) s none one = one
-by_told P (Some tells.Forgot) s none one = one
-by_told P (Some (tells.Took flight)) s none one = one
-by_told P (Some tells.Idle) s none one = none
-by_told P (Some (tells.Settled fated)) s none one = one
-by_told P (Some tells.Stopping) s none one = one
+by_told P told s none one = by (is_idle (kind_told told))
+  where
+    by : (b : Bool) → P (if b then [] else s ∷ [])
+    by true = none
+    by false = one
 
 -- a disk that is honest behind a turn was so before
 sent_keeps : {D : Type 0} (view : DiskView D) (base : BaseParts) (a b : DeviceLog) (x y : Desk D) (now : ℕ) (job : Job) (turned : Turned) → SentSo view base now job a b x y turned → view.honest y.recorder.disk → view.honest x.recorder.disk
@@ -174,7 +174,7 @@ module _ {D : Type 0} (view : DiskView D) (base : BaseParts) (url : List ℕ) (o
   sent_after a b x y now job turned (settled done answered sends asked is) honest work flies bytes =
       let puts = puts_if base given job done a b sends bytes in
       let ask : Ask = Settle job.number done in
-      let after = after_ask a b puts.events x y now ask asked.met work puts.grew tt (λ s deed_is.
+      let after = after_ask a b puts.events x y now ask asked.met work puts.grew (λ id some. let no : ◌≡◌ {A = Option BodyId} None (Some id) = some in cc no) (λ s deed_is.
       subst (λ (o : Option Flight). HasPutOf base given (job_sent o s.deed s.mark) puts.events) (sym flies)
       (subst (λ (d : Deed). HasPutOf base given (job_sent (Some (flight_in job)) d s.mark) puts.events) (sym deed_is) (settling_sends base given (flight_in job) job.number done s.mark puts.events puts.put)))
       asked.was honest in
@@ -184,7 +184,7 @@ module _ {D : Type 0} (view : DiskView D) (base : BaseParts) (url : List ℕ) (o
   -- after a take
   took_after : (a : DeviceLog) (x y : Desk D) (now : ℕ) (answered : Answered) (asked : AskedSo view now Take x y answered) → view.honest y.recorder.disk → Work a x → AfterVerdict asked.met.verdict a y
   took_after a x y now answered asked honest work =
-      after_ask a a [] x y now Take asked.met work (grows_same is_failure a) tt (λ s deed_is. take_sends_none base given x.table.job s [] deed_is) asked.was honest
+      after_ask a a [] x y now Take asked.met work (grows_same is_failure a) (λ id some. let no : ◌≡◌ {A = Option BodyId} None (Some id) = some in cc no) (λ s deed_is. take_sends_none base given x.table.job s [] deed_is) asked.was honest
 
   take_work : (a : DeviceLog) (x y : Desk D) (now : ℕ) (answer : Answer) (asked : AskedSo view now Take x y (Ok answer)) → view.honest y.recorder.disk → Work a x → Work a y
   take_work a x y now answer asked honest work = by asked.met.verdict asked.answer (took_after a x y now (Ok answer) asked honest work)
@@ -206,9 +206,10 @@ module _ {D : Type 0} (view : DiskView D) (base : BaseParts) (url : List ℕ) (o
       let facts = took_facts x.table now asked.met answer job asked.answer has in
       let here : mid.table ≡ changed x.table (take_effect x.table (Some (flight_in job))) =
       asked.was.table ∙ ap (λ (v : Verdict). table_by v x.table now Take) facts.went ∙ take_flies x.table now (flight_in job) facts.taken_is in
-      let told : HasBytesIf given (an_answer (answers.Took job)) =
-      subst (HasBytesIf given) (sym asked.answer ∙ ap an_answer facts.answer_is) (asked.was.bytes honest_mid url opening start given work.working) in
-      sent_after a b mid y now job turned sent honest (take_work a x mid now answer asked honest_mid work) (ap (λ (t : DeskTable). t.job) here) (sym told)
+      let told : HasBytesIf given (Some (tells.Took (flight_in job))) (an_answer (answers.Took job)) =
+      subst (λ (o : Option Flight). HasBytesIf given (take_effect x.table o).told (an_answer (answers.Took job))) facts.taken_is
+      (subst (HasBytesIf given (told_met x.table (take_ask now))) (sym asked.answer ∙ ap an_answer facts.answer_is) (asked.was.bytes honest_mid url opening start given work.working)) in
+      sent_after a b mid y now job turned sent honest (take_work a x mid now answer asked honest_mid work) (ap (λ (t : DeskTable). t.job) here) (sym (told job.body refl))
 
   work_outlives : (b : DeviceLog) (y : Desk D) → Work b y → AllOutlive view base url opening start given begun b y
   work_outlives b y work =

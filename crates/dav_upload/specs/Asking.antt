@@ -1,10 +1,13 @@
 -- A desk as a device: what it is asked, how each ask goes, and what comes of it.
-use Rattle.std.specs.Prelude.{ℕ, List, [], ◌∷◌, ◌++◌, Result}
+use Rattle.std.specs.Prelude.{ℕ, List, [], ◌∷◌, ◌++◌, Option, Result}
 use Rattle.dav_machine.specs.Log.{Event, event}
 use Rattle.dav_machine.specs.Devices.{one_device}
 use Rattle.dav_machine.specs.Machine.{Machine, Calls, give}
 use Rattle.dav_deeds.specs.DeskTable.{DeskTable}
+use Rattle.dav_deeds.specs.Effects.{told_of}
+use Rattle.dav_deeds.specs.Legal.{deed_of}
 use Rattle.dav_deeds.specs.declared.answer.Answer.{Answer}
+use Rattle.dav_deeds.specs.declared.answer.Told.{Told}
 use Rattle.dav_deeds.specs.declared.ask.Ask.{Ask}
 use Rattle.dav_deeds.specs.declared.ask.Who.{Who}
 use Rattle.dav_deeds.specs.declared.deed.Step.{Step}
@@ -20,7 +23,7 @@ pub record Asking : Type 0 where
 abbrev pub asking : Who → ℕ → Ask → Asking
 asking who now ask = record { who = who; now = now; ask = ask }
 
--- how an ask goes, and the bytes of the job that is told, if one is
+-- how an ask goes, and the bytes of the body that is told, if one is
 pub record Met : Type 0 where
   pub verdict : Verdict
   pub bytes : List ℕ
@@ -37,6 +40,10 @@ table_met t a met = table_by met.verdict t a.now a.ask
 
 abbrev pub answer_met : DeskTable → Asking → Met → Answered
 answer_met t a met = result_by met.verdict t a.now a.ask met.bytes
+
+-- what it tells where it goes
+abbrev pub told_met : DeskTable → Asking → Option Told
+told_met t a = told_of t a.now (deed_of t a.ask)
 
 -- the steps by which the trace grows; their moments are left out
 abbrev pub steps_met : DeskTable → Asking → Met → List Step

@@ -1,19 +1,17 @@
 -- The requests on a wire that stand behind the settlings of a trace.
-use Rattle.std.specs.Prelude.{◌≡◌, ℕ, List, [], ◌∷◌, ◌++◌, Option, Some, None, true}
+use Rattle.std.specs.Prelude.{◌≡◌, ℕ, List, [], ◌∷◌, ◌++◌, Option, Some, None, true, if◌then◌else◌}
 use Rattle.dav_edge.specs.Connections.{Connections, connection, with_standing, all_of, after_calls}
 use Rattle.dav_edge.specs.Device.{Happened}
 use Rattle.dav_frame.specs.Framing.{Message}
 use Rattle.dav_uri.specs.Target.{BaseParts}
 use Rattle.dav_verbs.specs.Outcome.{is_success}
 use Rattle.dav_deeds.specs.declared.answer.Flight.{Flight}
-use Rattle.dav_deeds.specs.declared.ask.Done.TheVariants.{Sent}
 use Rattle.dav_deeds.specs.declared.deed.Deed.{Deed}
-use Rattle.dav_deeds.specs.declared.deed.Deed.TheVariants.{Settle}
 use Rattle.dav_deeds.specs.declared.deed.Mark.{Mark}
-use Rattle.dav_deeds.specs.declared.deed.Mark.TheVariants.{Plain}
 use Rattle.dav_deeds.specs.declared.deed.Step.{Step}
 use Rattle.dav_deeds.specs.DeskTable.{DeskTable}
 use Rattle.dav_deeds.specs.Effects.{after}
+use Rattle.dav_deeds.specs.Fate.{tells_sent}
 use Rattle.dav_upload.specs.Exchange.{HasReply, put_text}
 
 -- the request of a job: it stores the bytes of the job's body under the job's path, and only where the server has what was
@@ -36,8 +34,7 @@ pub record HasPut (base : BaseParts) (bodies : ℕ → List ℕ) (flight : Fligh
 
 -- the job whose bytes a deed with this mark tells to be sent, where this is the one in flight
 abbrev pub job_sent : Option Flight → Deed → Mark → Option Flight
-job_sent job (Settle number (Sent seen)) Plain = job
-job_sent job deed mark = None
+job_sent job deed mark = if tells_sent deed mark then job else None
 
 -- among these calls is the request of the job, if there is a job
 abbrev pub HasPutOf : BaseParts → (ℕ → List ℕ) → Option Flight → List Happened → Type 0

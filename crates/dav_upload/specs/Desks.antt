@@ -1,16 +1,17 @@
 -- What asks do to a desk over a disk.
-use Rattle.std.specs.Prelude.{◌≡◌, ◌≢◌, ℕ, ◌≤◌, List, [], ◌∷◌, ◌++◌, Ok, Err, None}
+use Rattle.std.specs.Prelude.{◌≡◌, ◌≢◌, ℕ, ◌≤◌, List, [], ◌∷◌, ◌++◌, Option, Ok, Err, None}
 use Rattle.dav_machine.specs.Log.{event}
 use Rattle.dav_disk.specs.Disk.{Doubt}
 use Rattle.dav_deeds.specs.DeskTable.{DeskTable}
 use Rattle.dav_deeds.specs.Legal.{IsAsk}
+use Rattle.dav_deeds.specs.declared.answer.Told.{Told}
 use Rattle.dav_deeds.specs.declared.ask.Ask.{Ask}
 use Rattle.dav_deeds.specs.declared.ask.Who.TheVariants.{Uploader}
 use Rattle.dav_desk.specs.declared.desk.Desk.{Desk}
 use Rattle.dav_desk.specs.Verdict.{steps_by}
 use Rattle.dav_desk.specs.Ended.{HasCause}
 use Rattle.dav_desk.specs.Working.{AreGiven, HasBytes, HasSum, IsWorking, IsStopped}
-use Rattle.dav_upload.specs.Asking.{asking, Met, Asked, Answered, table_met, answer_met}
+use Rattle.dav_upload.specs.Asking.{asking, Met, Asked, Answered, table_met, told_met, answer_met}
 
 -- what the trait of a disk tells of one
 pub record DiskView (D : Type 0) : Type 1 where
@@ -29,15 +30,15 @@ Works view url opening start given desk = IsWorking view.moment view.seen view.p
 abbrev pub Stops : {D : Type 0} → DiskView D → List ℕ → DeskTable → ℕ → (ℕ → List ℕ) → Desk D → Type 0
 Stops view url opening start given desk = IsStopped view.moment view.past url opening start given desk
 
--- an answer has the bytes that are given for the body of a job
-abbrev pub HasBytesIf : (ℕ → List ℕ) → Answered → Type 0
-HasBytesIf given (Ok answer) = HasBytes given answer
-HasBytesIf given (Err fault) = Unit {0}
+-- an answer has the bytes that are given for the body that is told
+abbrev pub HasBytesIf : (ℕ → List ℕ) → Option Told → Answered → Type 0
+HasBytesIf given told (Ok answer) = HasBytes given told answer
+HasBytesIf given told (Err fault) = Unit {0}
 
 -- and they have the SHA-256 of the body
-abbrev pub HasSumIf : Answered → Type 0
-HasSumIf (Ok answer) = HasSum answer
-HasSumIf (Err fault) = Unit {0}
+abbrev pub HasSumIf : Option Told → Answered → Type 0
+HasSumIf told (Ok answer) = HasSum told answer
+HasSumIf told (Err fault) = Unit {0}
 
 -- the desk was asked this, and it went so
 pub record WasAsked {D : Type 0} (view : DiskView D) (e : Asked) (old new : Desk D) : Type 0 where
@@ -49,8 +50,8 @@ pub record WasAsked {D : Type 0} (view : DiskView D) (e : Asked) (old new : Desk
       → new.recorder.dead ≡ None → Works view url opening start given new
   pub stopped : view.honest new.recorder.disk → (url : List ℕ) (opening : DeskTable) (start : ℕ) (given : ℕ → List ℕ) → AreGiven old.table given e.asked.ask → Works view url opening start given old
       → new.recorder.dead ≢ None → Stops view url opening start given new
-  pub bytes : view.honest new.recorder.disk → (url : List ℕ) (opening : DeskTable) (start : ℕ) (given : ℕ → List ℕ) → Works view url opening start given old → HasBytesIf given (answer_met old.table e.asked e.answer)
-  pub sums : HasSumIf (answer_met old.table e.asked e.answer)
+  pub bytes : view.honest new.recorder.disk → (url : List ℕ) (opening : DeskTable) (start : ℕ) (given : ℕ → List ℕ) → Works view url opening start given old → HasBytesIf given (told_met old.table e.asked) (answer_met old.table e.asked e.answer)
+  pub sums : HasSumIf (told_met old.table e.asked) (answer_met old.table e.asked e.answer)
   pub keeps : view.honest new.recorder.disk → view.honest old.recorder.disk
   pub no_fewer : view.faults old.recorder.disk ≤ view.faults new.recorder.disk
 

@@ -6,9 +6,10 @@ use Rattle.dav_machine.specs.Part.{lift}
 use Rattle.dav_edge.specs.Device.{ByteMachine, DeviceLog}
 use Rattle.dav_uri.specs.Target.{BaseParts}
 use Rattle.dav_text.specs.declared.memory.Memory.{Memory as Want}
+use Rattle.dav_deeds.specs.Answers.{fate_in, job_in}
 use Rattle.dav_deeds.specs.DeskTable.{DeskTable}
 use Rattle.dav_deeds.specs.declared.answer.Answer.{Answer}
-use Rattle.dav_deeds.specs.declared.answer.Answer.TheVariants.{Closed, Forgot, Took, Idle, Settled, Stopping}
+use Rattle.dav_deeds.specs.declared.answer.Fated.{Fated}
 use Rattle.dav_deeds.specs.declared.answer.Job.{Job}
 use Rattle.dav_deeds.specs.declared.ask.Ask.TheVariants.{Take, Settle}
 use Rattle.dav_deeds.specs.declared.ask.Done.{Done}
@@ -48,23 +49,13 @@ fault_of (desk.Crowded oldest) = faults.Desk (desk.Crowded oldest)
 fault_of (desk.Limit which) = faults.Desk (desk.Limit which)
 fault_of desk.Memory = faults.Memory
 
--- the job that an answer tells
-abbrev pub job_in : Answer → Option Job
-job_in (Closed body) = None
-job_in Forgot = None
-job_in (Took job) = Some job
-job_in Idle = None
-job_in (Settled fated) = None
-job_in Stopping = None
-
 -- what a settling comes to
+abbrev pub did_by : Option Fated → Did
+did_by None = did.Nothing
+did_by (Some fated) = did.Settled fated
+
 abbrev pub did_in : Answer → Did
-did_in (Closed body) = did.Nothing
-did_in Forgot = did.Nothing
-did_in (Took job) = did.Nothing
-did_in Idle = did.Nothing
-did_in (Settled fated) = did.Settled fated
-did_in Stopping = did.Nothing
+did_in answer = did_by (fate_in answer)
 
 abbrev pub did_of : Answered → Turned
 did_of (Ok answer) = Ok (did_in answer)

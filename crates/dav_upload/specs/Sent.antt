@@ -1,11 +1,12 @@
 -- What a wire is sent of the jobs of a desk: the request of each, and nothing else.
-use Rattle.std.specs.Prelude.{◌≡◌, ℕ, List, [], ◌∷◌, ◌++◌, Option, Some, None, Ok}
+use Rattle.std.specs.Prelude.{◌≡◌, ℕ, List, [], ◌∷◌, ◌++◌, Option, Some, None, Ok, Err}
+use Rattle.std.specs.Option.{option_to_list}
 use Rattle.dav_edge.specs.Connections.{Connection}
 use Rattle.dav_edge.specs.Device.{Happened}
 use Rattle.dav_uri.specs.Target.{BaseParts}
 use Rattle.dav_text.specs.Path.{PathParts}
+use Rattle.dav_deeds.specs.Answers.{job_in}
 use Rattle.dav_deeds.specs.DeskTable.{DeskTable}
-use Rattle.dav_deeds.specs.declared.answer.Answer.TheVariants.{Took}
 use Rattle.dav_deeds.specs.declared.answer.Flight.{Flight}
 use Rattle.dav_deeds.specs.declared.answer.Job.{Job}
 use Rattle.dav_deeds.specs.declared.deed.Step.{Step}
@@ -13,12 +14,16 @@ use Rattle.dav_desk.specs.Verdict.{step_of}
 use Rattle.dav_upload.specs.Backs.{job_sent, HasPutOf}
 use Rattle.dav_upload.specs.Exchange.{put_text}
 use Rattle.dav_upload.specs.Desks.{HasBytesIf}
-use Rattle.dav_upload.specs.Asking.{Asked, Answered, answer_met, table_met}
+use Rattle.dav_upload.specs.Asking.{Asked, Answered, told_met, answer_met, table_met}
 
--- the bytes of the job that the answer tells, or else these
+-- the bytes of the job that the answer gives, or else these
+abbrev pub bytes_or : List ℕ → Option Job → List ℕ
+bytes_or bytes None = bytes
+bytes_or bytes (Some job) = job.bytes
+
 abbrev pub bytes_told : List ℕ → Answered → List ℕ
-bytes_told bytes (Ok (Took job)) = job.bytes
-bytes_told bytes _ = bytes
+bytes_told bytes (Ok answer) = bytes_or bytes (job_in answer)
+bytes_told bytes (Err fault) = bytes
 
 -- the step that an ask is, whether it went or was stopped
 abbrev pub step_asked : DeskTable → Asked → Step
@@ -36,7 +41,7 @@ AsksBacked base bytes t (e ∷ es) events =
 -- each job was told with the bytes that are given for its body
 abbrev pub AllTold : (ℕ → List ℕ) → DeskTable → List Asked → Type 0
 AllTold given t [] = Unit {0}
-AllTold given t (e ∷ es) = HasBytesIf given (answer_met t e.asked e.answer) × AllTold given (table_met t e.asked e.answer) es
+AllTold given t (e ∷ es) = HasBytesIf given (told_met t e.asked) (answer_met t e.asked e.answer) × AllTold given (table_met t e.asked e.answer) es
 
 -- the bytes are those that are given for the job in flight
 abbrev pub JobGiven : (ℕ → List ℕ) → List ℕ → Option Flight → Type 0
@@ -45,8 +50,8 @@ JobGiven given bytes (Some flight) = bytes ≡ given flight.body.file
 
 -- the job that an answer tells
 abbrev pub job_told : Answered → List Job
-job_told (Ok (Took job)) = job ∷ []
-job_told _ = []
+job_told (Ok answer) = option_to_list (job_in answer)
+job_told (Err fault) = []
 
 -- the jobs that these asks told
 abbrev pub jobs_told : DeskTable → List Asked → List Job

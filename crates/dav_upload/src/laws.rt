@@ -7,7 +7,7 @@ ghost use Rattle.dav_uri.specs.Target.{BaseParts};
 ghost use Rattle.dav_deeds.specs.declared.ask.Ask.{Ask};
 ghost use Rattle.dav_deeds.specs.declared.deed.Step.{Step};
 ghost use Rattle.dav_deeds.specs.DeskTable.{DeskTable, reopened};
-ghost use Rattle.dav_deeds.specs.Legal.{IsAsk, Legal, table_after};
+ghost use Rattle.dav_deeds.specs.Legal.{IsAsk, IsOfShell, Legal, table_after};
 ghost use Rattle.dav_recorder.specs.Recovers.{Recovers};
 ghost use Rattle.dav_recorder.specs.Survives.{Survives, SurviveAll, with_under};
 ghost use Rattle.dav_desk.specs.Verdict.{Verdict, table_by};
@@ -17,7 +17,7 @@ ghost use Rattle.dav_upload.specs.Drain.{Drained, Drains};
 ghost use Rattle.dav_upload.specs.Turns.{Turns, Backed};
 ghost use Rattle.dav_upload.specs.Outlives.{KeepsBytes, Outlives};
 ghost use Rattle.dav_upload.specs.Pair.{Answers, Made};
-ghost use Rattle.dav_upload.specs.Resting.{IsOfShell, IsResting};
+ghost use Rattle.dav_upload.specs.Resting.{IsResting};
 ghost use Rattle.dav_upload.specs.Sent.{step_asked, AsksBacked, AllTold, JobGiven, OfJobs, PathsDiffer, jobs_told};
 
 /// A law: where the steps of a desk that tell bytes to be sent have their requests on the wire, and an image of

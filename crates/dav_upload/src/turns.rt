@@ -7,7 +7,7 @@ ghost use Rattle.dav_deeds.specs.Sound.{IsSound};
 ghost use Rattle.dav_desk.specs.Working.{IsReadied};
 ghost use Rattle.dav_upload.specs.Desks.{disk_view, AskedSo};
 ghost use Rattle.dav_upload.specs.Pair.{pair, PairGrew};
-ghost use Rattle.dav_upload.specs.Drain.{fault_of, job_in, did_in, did_of, TurnsOf, SentSo, TurnSo};
+ghost use Rattle.dav_upload.specs.Drain.{fault_of, did_in, did_of, TurnsOf, SentSo, TurnSo};
 ghost use Rattle.dav_upload.specs.AtWork.{IsAtWork, IsAfter};
 
 use crate::did::{Did, UploadFault};
@@ -57,7 +57,7 @@ pub(crate) fn make_turn<V: Wire, D: Disk>(
         Ok(answer) => answer,
         Err(fault) => return Err(fault_of(fault)),
     };
-    match job_in(answer) {
+    match answer.job() {
         Some(job) => send(alloc, base, wire, desk, job, now),
         None => Ok(Did::Nothing),
     }
@@ -95,25 +95,13 @@ fn ask<D: Disk>(desk: &mut Desk<D>, ask: &Ask, now: u64) -> Result<Answer, DeskF
     desk.step(Who::Uploader, ask, now)
 }
 
-/// The job that an answer tells.
-fn job_in(answer: Answer) -> Option<Job>
-    ensures { result ≡ job_in answer }
-{
-    match answer {
-        Answer::Took(job) => Some(job),
-        Answer::Closed(_) | Answer::Forgot | Answer::Idle | Answer::Settled(_) | Answer::Stopping =>
-            None,
-    }
-}
-
 /// What a settling comes to.
-fn did_in(answer: Answer) -> Did
-    ensures { result ≡ did_in answer }
+fn did_in(answer: &Answer) -> Did
+    ensures { result ≡ did_in answer.now }
 {
-    match answer {
-        Answer::Settled(fated) => Did::Settled(fated),
-        Answer::Closed(_) | Answer::Forgot | Answer::Took(_) | Answer::Idle | Answer::Stopping =>
-            Did::Nothing,
+    match answer.fate() {
+        Some(fated) => Did::Settled(fated),
+        None => Did::Nothing,
     }
 }
 
@@ -122,7 +110,7 @@ fn did_of(answered: Result<Answer, DeskFault>) -> Result<Did, UploadFault>
     ensures { result ≡ did_of answered }
 {
     match answered {
-        Ok(answer) => Ok(did_in(answer)),
+        Ok(answer) => Ok(did_in(&answer)),
         Err(fault) => Err(fault_of(fault)),
     }
 }

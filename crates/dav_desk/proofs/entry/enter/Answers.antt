@@ -1,4 +1,4 @@
-use Rattle.std.proofs.Common.{◌≡◌, ◌≢◌, inr, ℕ, [], Option, sym, subst}
+use Rattle.std.proofs.Common.{◌≡◌, ◌≢◌, inr, ℕ, List, [], Option, sym, ◌∙◌, ap, subst, arith}
 use Rattle.dav_recorder.specs.Planned.{IsPlanned}
 use Rattle.dav_deeds.specs.Legal.{new_body, table_after}
 use Rattle.dav_desk.proofs.Entering.{entry_planned, entry_quiet, row_empty, row_full}
@@ -6,7 +6,10 @@ use Rattle.std.specs.List.{Contains}
 use Rattle.dav_recorder.specs.Files.{ChangesOnly, IsStored}
 use Rattle.dav_recorder.specs.Stands.{IsWritten}
 use Rattle.dav_recorder.proofs.Filing.{changes_wider}
+use Rattle.dav_recorder.specs.Calls.{entry_calls, freeing_calls, IsUnder}
+use Rattle.dav_desk.specs.Calls.{row_calls}
 use Rattle.dav_desk.specs.Entry.{file_in}
+use Rattle.dav_desk.proofs.Calling.{full_calls}
 use Rattle.dav_desk.proofs.entry.enter.Goals as goal
 
 pub returns-in-Ok-clause-live : goal.returns-in-Ok-clause-live
@@ -58,3 +61,44 @@ pub returns-in-Ok-enter-clause-stored : goal.returns-in-Ok-enter-clause-stored
 returns-in-Ok-enter-clause-stored g c h some =
     let disk = c.enter.new.self.disk in
     subst (λ (o : Option ℕ). IsStored o c.args.bytes.now c.args.freed.now (g.D.Disk.seen disk) (g.D.Disk.past disk (g.D.Disk.moment disk))) c.fresh_of-fresh.ensures (c.in-Ok-enter.ensures.stored h)
+
+pub returns-in-Ok-clause-counts : goal.returns-in-Ok-clause-counts
+returns-in-Ok-clause-counts g c =
+    let none : c.args.row.now ≡ [] = row_empty c.args.row.now c.is_empty.result c.is_empty.ensures c.if-is_empty.true in
+    let calls : row_calls c.args.row.now (file_in (new_body c.args.step.deed)) c.args.freed.now ≡ freeing_calls c.args.freed.now = ap (λ (l : List ℕ). row_calls l (file_in (new_body c.args.step.deed)) c.args.freed.now) none in
+    record { later = c.in-Ok.ensures.counts.later; all = omega (arith, c.in-Ok.ensures.counts.all, calls); no_more = omega (arith, c.in-Ok.ensures.counts.no_more, calls) }
+
+pub returns-in-Err-clause-counts : goal.returns-in-Err-clause-counts
+returns-in-Err-clause-counts g c =
+    let none : c.args.row.now ≡ [] = row_empty c.args.row.now c.is_empty.result c.is_empty.ensures c.if-is_empty.true in
+    let calls : row_calls c.args.row.now (file_in (new_body c.args.step.deed)) c.args.freed.now ≡ freeing_calls c.args.freed.now = ap (λ (l : List ℕ). row_calls l (file_in (new_body c.args.step.deed)) c.args.freed.now) none in
+    record { later = c.in-Err.ensures.counts.later; all = tt; no_more = omega (arith, c.in-Err.ensures.counts.no_more, calls) }
+
+pub returns-in-Ok-enter-clause-counts : goal.returns-in-Ok-enter-clause-counts
+returns-in-Ok-enter-clause-counts g c =
+    let some : c.args.row.now ≢ [] = row_full c.args.row.now c.is_empty.result c.is_empty.ensures c.if-is_empty.false in
+    let calls : row_calls c.args.row.now (file_in (new_body c.args.step.deed)) c.args.freed.now ≡ entry_calls c.fresh_of-fresh.result c.args.freed.now =
+    full_calls c.args.row.now (file_in (new_body c.args.step.deed)) c.args.freed.now some ∙ ap (λ (o : Option ℕ). entry_calls o c.args.freed.now) (sym c.fresh_of-fresh.ensures) in
+    record { later = c.in-Ok-enter.ensures.counts.later; all = omega (arith, c.in-Ok-enter.ensures.counts.all, calls); no_more = omega (arith, c.in-Ok-enter.ensures.counts.no_more, calls) }
+
+pub returns-in-Err-enter-clause-counts : goal.returns-in-Err-enter-clause-counts
+returns-in-Err-enter-clause-counts g c =
+    let some : c.args.row.now ≢ [] = row_full c.args.row.now c.is_empty.result c.is_empty.ensures c.if-is_empty.false in
+    let calls : row_calls c.args.row.now (file_in (new_body c.args.step.deed)) c.args.freed.now ≡ entry_calls c.fresh_of-fresh.result c.args.freed.now =
+    full_calls c.args.row.now (file_in (new_body c.args.step.deed)) c.args.freed.now some ∙ ap (λ (o : Option ℕ). entry_calls o c.args.freed.now) (sym c.fresh_of-fresh.ensures) in
+    record { later = c.in-Err-enter.ensures.counts.later; all = tt; no_more = omega (arith, c.in-Err-enter.ensures.counts.no_more, calls) }
+
+pub returns-in-Err-clause-quiet : goal.returns-in-Err-clause-quiet
+returns-in-Err-clause-quiet g c none = c.in-Err.ensures.stopped.4
+
+pub returns-in-Err-clause-under : goal.returns-in-Err-clause-under
+returns-in-Err-clause-under g c some = absurd (some (row_empty c.args.row.now c.is_empty.result c.is_empty.ensures c.if-is_empty.true))
+
+pub returns-in-Err-enter-clause-quiet : goal.returns-in-Err-enter-clause-quiet
+returns-in-Err-enter-clause-quiet g c none = absurd (row_full c.args.row.now c.is_empty.result c.is_empty.ensures c.if-is_empty.false none)
+
+pub returns-in-Err-enter-clause-under : goal.returns-in-Err-enter-clause-under
+returns-in-Err-enter-clause-under g c some =
+    let old = c.args.recorder.now in
+    let new = c.enter.new.self in
+    subst (λ (o : Option ℕ). IsUnder g.D.Disk.honest g.D.Disk.moment g.D.Disk.seen g.D.Disk.past o c.args.bytes.now c.args.freed.now c.args.step old.disk new.disk old.under new.under) c.fresh_of-fresh.ensures c.in-Err-enter.ensures.under

@@ -1,7 +1,8 @@
-use Rattle.std.proofs.Common.{[], ◌∷◌, ◌++◌, inl, inr, ◌∙◌}
+use Rattle.std.proofs.Common.{[], ◌∷◌, ◌++◌, inl, inr, ◌∙◌, arith}
+use Rattle.std.proofs.lemmas.Bool.{false≢true}
 use Rattle.dav_recorder.specs.Stands.{StandsEither}
 use Rattle.dav_recorder.proofs.Standing.{images_join, row_images, row_done}
-use Rattle.dav_recorder.proofs.Filing.{rest_after, stored_after}
+use Rattle.dav_recorder.proofs.Filing.{rest_after, stored_after, stored_row}
 use Rattle.dav_recorder.proofs.commit.commit_rows.Goals as goal
 
 pub returns-in-Err-append-clause-any_moment : goal.returns-in-Err-append-clause-any_moment
@@ -45,8 +46,24 @@ returns-in-Err-release-clause-any_moment g c h rows holds holds_after given is s
 pub returns-in-Err-clause-others : goal.returns-in-Err-clause-others
 returns-in-Err-clause-others g c h f out = c.keep.ensures.others h f (λ is. out (inr (inl is)))
 
-pub returns-in-Err-clause-early : goal.returns-in-Err-clause-early
-returns-in-Err-clause-early g c h is = record { touches = c.keep.ensures.touches h; others = c.keep.ensures.others h }
+pub returns-in-Err-clause-unbegun : goal.returns-in-Err-clause-unbegun
+returns-in-Err-clause-unbegun g c is = record {
+  has_body = λ none. false≢true (c.in-Err.ensures.none none);
+  early = c.keep.ensures.counts.no_more;
+  changes = λ h. record { touches = c.keep.ensures.touches h; others = c.keep.ensures.others h };
+}
+
+pub returns-in-Err-append-clause-begun : goal.returns-in-Err-append-clause-begun
+returns-in-Err-append-clause-begun g c is = record {
+  late = omega (arith, c.in-Ok.ensures.counts.all, c.append.ensures.counts.later);
+  stored = λ h. stored_row c.args.fresh c.args.bytes.now c.args.freed.now (g.D.Disk.seen c.keep.new.disk) (g.D.Disk.seen c.append.new.disk) c.requires.fresh_apart (c.in-Ok.ensures.stored (c.append.ensures.keeps h)) (c.append.ensures.touches h) (c.append.ensures.others h);
+}
+
+pub returns-in-Err-release-clause-begun : goal.returns-in-Err-release-clause-begun
+returns-in-Err-release-clause-begun g c is = record {
+  late = omega (arith, c.in-Ok.ensures.counts.all, c.in-Ok-append.ensures.counts.all, c.release.ensures.counts.later);
+  stored = λ h. stored_after c.args.fresh c.args.bytes.now c.args.freed.now (g.D.Disk.seen c.keep.new.disk) (g.D.Disk.seen c.append.new.disk) (g.D.Disk.seen c.release.new.disk) c.requires.fresh_apart (c.in-Ok.ensures.stored (c.append.ensures.keeps (c.release.ensures.keeps h))) (c.append.ensures.touches (c.release.ensures.keeps h)) (c.append.ensures.others (c.release.ensures.keeps h)) (c.release.ensures.touches h) (c.release.ensures.others h);
+}
 
 pub returns-in-Err-append-clause-others : goal.returns-in-Err-append-clause-others
 returns-in-Err-append-clause-others g c h f out = c.append.ensures.others h f (λ first. out (inl first)) ∙ c.keep.ensures.others (c.append.ensures.keeps h) f (λ is. out (inr (inl is)))

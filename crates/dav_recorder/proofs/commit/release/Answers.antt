@@ -13,6 +13,7 @@ loop-file-init g c = record {
   others = λ h f out. refl;
   emptied = λ h j d lt. absurd (omega (arith, lt));
   keeps = λ h. h;
+  moments = omega arith;
   faults = omega arith;
 }
 
@@ -30,6 +31,7 @@ loop-file-preserved g c =
       emptied = λ h. empties_next c.args.freed.now c.loop-file.file-index (g.D.Disk.seen c.loop-file.disk) (g.D.Disk.seen c.release.new.disk) c.loop-file-test.true (c.release.ensures.touches h) (c.release.ensures.others h)
           (c.in_ok-release.ensures.seen h, c.in_ok-release.ensures.empty h) (c.loop-file.invariant.emptied (c.release.ensures.keeps h));
       keeps = λ h. c.loop-file.invariant.keeps (c.release.ensures.keeps h);
+      moments = omega (arith, c.loop-file.invariant.moments, c.in_ok-release.ensures.counts.all);
       faults = omega (arith, c.loop-file.invariant.faults, c.release.ensures.cause.later);
     }
 

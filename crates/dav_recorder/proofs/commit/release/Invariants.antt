@@ -1,4 +1,4 @@
-use Rattle.std.proofs.Common.{ℕ, ◌≤◌, List}
+use Rattle.std.proofs.Common.{◌≡◌, ℕ, ◌+◌, ◌*◌, ◌≤◌, List}
 use Rattle.std.specs.List.{Contains}
 use Rattle.dav_disk.specs.Disk.{Touches}
 use Rattle.dav_store.specs.Rows.{IsReady}
@@ -20,5 +20,6 @@ invariant-loop-file g l = record {
   others : g.D.Disk.honest l.disk → RestStays (Contains l.freed) (g.D.Disk.seen l.initial.disk) (g.D.Disk.seen l.disk);
   emptied : g.D.Disk.honest l.disk → AreEmptyTo l.file-index l.freed (g.D.Disk.seen l.disk) (g.D.Disk.past l.disk (g.D.Disk.moment l.disk));
   keeps : g.D.Disk.honest l.disk → g.D.Disk.honest l.initial.disk;
+  moments : g.D.Disk.moment l.disk ≡ g.D.Disk.moment l.initial.disk + 2 * l.file-index;
   faults : g.D.Disk.faults l.initial.disk ≤ g.D.Disk.faults l.disk;
 }

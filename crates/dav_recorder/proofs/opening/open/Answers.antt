@@ -6,6 +6,7 @@ use Rattle.dav_deeds.specs.declared.fault.DeskFault.{DeskFault}
 use Rattle.dav_recorder.specs.Opening.{IsStartFault, IsOther}
 use Rattle.dav_recorder.proofs.StartLemmas.{start_fault, other_fault, opening_images, opened_images, opened_index, bad_before, same_table, consistent}
 use Rattle.dav_index.proofs.LawLemmas.{record_same}
+use Rattle.dav_recorder.proofs.IndexLemmas.{replayed_index}
 use Rattle.dav_recorder.proofs.opening.open.Goals as goal
 
 pub returns-in-Err-clause-any_moment : goal.returns-in-Err-clause-any_moment
@@ -35,7 +36,7 @@ returns-then-ne-clause-fault g c =
     let asked_is : c.as_slice-2.result.now ≡ head_of c.args.url.now = c.as_slice-2.ensures ∙ c.in_ok-head.ensures.text ∙ text in
     let differ : c.head-2.result.now ≢ c.as_slice-2.result.now = search rules in
     other_fault (g.D.Disk.honest c.start.new.disk) c.args.url.now c.in-Ok.journal.head (g.D.Disk.seen c.args.disk.now 0) (g.D.Disk.faults c.args.disk.now) (g.D.Disk.faults c.start.new.disk) c.other_server.result
-    (λ same. differ (c.head-2.ensures ∙ same ∙ sym asked_is)) (λ h none. (c.in-Ok.ensures.made h none).0 ∙ head_is) c.in-Ok.ensures.opened
+    (λ same. differ (c.head-2.ensures ∙ same ∙ sym asked_is)) (λ h none. (c.in-Ok.ensures.made h none).0 ∙ head_is) c.in-Ok.ensures.opened c.in-Ok.ensures.short
     (subst (λ (l : List ℕ). IsOther c.args.url.now l c.other_server.result) c.head-then-ne.ensures c.other_server.ensures)
 
 pub returns-in-Ok-read_table-clause-table : goal.returns-in-Ok-read_table-clause-table
@@ -115,3 +116,6 @@ returns-clause-fault g c =
 
 pub returns-clause-touches : goal.returns-clause-touches
 returns-clause-touches g c h = touches_join (c.start.ensures.touches (c.read_table.ensures.keeps h)) (touches_wider (c.read_table.ensures.touches h) (λ f never. absurd never))
+
+pub returns-in-Ok-read_table-clause-indexed : goal.returns-in-Ok-read_table-clause-indexed
+returns-in-Ok-read_table-clause-indexed g c = replayed_index c.args.url.now c.in-Ok-read_table.opened.table c.requires c.in-Ok-read_table.ensures.replayed

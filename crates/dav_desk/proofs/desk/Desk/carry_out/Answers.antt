@@ -30,6 +30,8 @@ use Rattle.dav_recorder.proofs.Filing.{changes_none}
 use Rattle.dav_recorder.specs.Stands.{IsWritten}
 use Rattle.dav_desk.specs.Changed.{fresh_by, freed_by}
 use Rattle.dav_desk.proofs.Changing.{changes_asked, changes_looked, stored_asked, empty_asked, on_ok_any}
+use Rattle.dav_desk.specs.Called.{one_call, told_calls}
+use Rattle.dav_desk.proofs.Calling.{uncalled, unread, failed, went}
 use Rattle.dav_desk.proofs.desk.Desk.carry_out.Goals as goal
 
 pub returns-in_err-reserve-clause-asked : goal.returns-in_err-reserve-clause-asked
@@ -346,3 +348,37 @@ returns-clause-ends g c same =
     subst (λ (r : Result Answer DeskFault). IfErr r (λ fault. fault ≢ Memory))
     (sym (c.with_bytes.ensures ∙ ap (λ (r : Result Told DeskFault). with_bytes r c.in-Ok.bytes) c.requires.plan.answer))
     (end_answers e.mark e.told c.in-Ok.bytes told)
+
+pub returns-in_err-reserve-clause-called : goal.returns-in_err-reserve-clause-called
+returns-in_err-reserve-clause-called g c =
+    uncalled g.D.Disk.honest g.D.Disk.moment g.D.Disk.seen g.D.Disk.past c.args.planned.made.step.who c.args.planned.made.step.now c.args.ask.now c.args.self.now (record c.args.self.now { recorder = c.reserve.new.self })
+    (ap (λ (x : Recorder g.row.D.Denot). x.disk) c.reserve.ensures.rest) c.reserve.ensures.items (ap (λ (x : Recorder g.row.D.Denot). x.under) c.reserve.ensures.rest)
+    (λ alive. ap (λ (x : Recorder g.row.D.Denot). x.dead) c.reserve.ensures.rest ∙ alive)
+
+pub returns-in-Err-clause-called : goal.returns-in-Err-clause-called
+returns-in-Err-clause-called g c =
+    let missing = c.in-Err.ensures.fault in
+    let disk : c.reserve.new.self.disk ≡ c.args.self.now.recorder.disk = ap (λ (x : Recorder g.row.D.Denot). x.disk) c.reserve.ensures.rest in
+    let one : told_calls c.args.planned.made.step.told ≡ 1 = ap one_call missing.is_wanted in
+    let same : g.D.Disk.moment c.reserve.new.self.disk ≡ g.D.Disk.moment c.args.self.now.recorder.disk = ap g.D.Disk.moment disk in
+    unread g.D.Disk.honest g.D.Disk.moment g.D.Disk.seen g.D.Disk.past c.args.planned.made.step.who c.args.planned.made.step.now c.args.ask.now c.args.self.now (record c.args.self.now { recorder = c.told_bytes.new.recorder })
+    missing.body (ap wanted (sym (ap (λ (s : Step). s.told) c.requires.plan.step)) ∙ missing.is_wanted) (omega (arith, same, c.in-Err.ensures.counts.later)) (omega (arith, same, one, c.in-Err.ensures.counts.no_more))
+    (ap (λ (x : Trace). x.steps.items) c.told_bytes.ensures.trace.0 ∙ c.reserve.ensures.items) (c.told_bytes.ensures.trace.1 ∙ ap (λ (x : Recorder g.row.D.Denot). x.under) c.reserve.ensures.rest)
+
+pub returns-in-Err-enter-clause-called : goal.returns-in-Err-enter-clause-called
+returns-in-Err-enter-clause-called g c =
+    let stopped = c.in-Err-enter.ensures.stopped in
+    failed g.D.Disk.honest g.D.Disk.moment g.D.Disk.seen g.D.Disk.past c.args.planned.made.step.who c.args.planned.made.step.now c.args.ask.now c.args.self.now (record c.args.self.now { recorder = c.enter.new.recorder }) c.args.planned c.args.row.now c.requires.plan c.reserve.new.self c.told_bytes.new.recorder
+    (ap (λ (x : Recorder g.row.D.Denot). x.disk) c.reserve.ensures.rest) (ap (λ (x : Recorder g.row.D.Denot). x.under) c.reserve.ensures.rest) c.reserve.ensures.items
+    c.in-Ok.ensures.counts.all c.told_bytes.ensures.trace.1 (ap (λ (x : Trace). x.steps.items) c.told_bytes.ensures.trace.0)
+    c.bytes.result.now c.as_slice.result.now c.bytes.ensures c.as_slice.ensures.value
+    c.in-Err-enter.ensures.counts.later c.in-Err-enter.ensures.counts.no_more stopped.1 stopped.3 (λ h. c.told_bytes.ensures.changes (c.enter.ensures.keeps h)) c.in-Err-enter.ensures.quiet c.in-Err-enter.ensures.under
+
+pub returns-clause-called : goal.returns-clause-called
+returns-clause-called g c =
+    let ended = c.in-Ok-enter.ensures.ended in
+    went g.D.Disk.honest g.D.Disk.moment g.D.Disk.seen g.D.Disk.past c.args.planned.made.step.who c.args.planned.made.step.now c.args.ask.now c.args.self.now (record c.args.self.now { recorder = c.enter.new.recorder; table = c.apply.new.self; spare = c.kept_spare.result }) c.args.planned c.args.row.now c.requires.plan c.reserve.new.self c.told_bytes.new.recorder
+    (ap (λ (x : Recorder g.row.D.Denot). x.disk) c.reserve.ensures.rest) (ap (λ (x : Recorder g.row.D.Denot). x.under) c.reserve.ensures.rest) c.reserve.ensures.items
+    c.in-Ok.ensures.counts.all c.told_bytes.ensures.trace.1 (ap (λ (x : Trace). x.steps.items) c.told_bytes.ensures.trace.0)
+    c.bytes.result.now c.as_slice.result.now c.bytes.ensures c.as_slice.ensures.value
+    c.in-Ok-enter.ensures.counts.all ended.0 ended.1 (ended.2 ∙ c.in-Ok.ensures.alive ∙ ap (λ (x : Recorder g.row.D.Denot). x.dead) c.reserve.ensures.rest ∙ c.requires.alive)

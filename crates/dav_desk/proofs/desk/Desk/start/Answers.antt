@@ -1,6 +1,7 @@
-use Rattle.std.proofs.Common.{List, sym, ◌∙◌, ap}
+use Rattle.std.proofs.Common.{ℕ, List, sym, ◌∙◌, ap, subst}
 use Rattle.dav_index.specs.declared.table.Table.{Table}
-use Rattle.dav_deeds.specs.DeskTable.{started}
+use Rattle.dav_deeds.specs.DeskTable.{DeskTable, started}
+use Rattle.dav_recorder.specs.Opening.{IsIndexOf}
 use Rattle.dav_deeds.specs.Legal.{table_after}
 use Rattle.dav_deeds.specs.declared.deed.Step.{Step}
 use Rattle.dav_desk.proofs.desk.Desk.start.Goals as goal
@@ -16,3 +17,13 @@ returns-in-Ok-clause-working g c h table given all =
         live = both.1;
       },
     )
+
+pub returns-in-Ok-clause-opened : goal.returns-in-Ok-clause-opened
+returns-in-Ok-clause-opened g c h =
+    let opened = c.in-Ok.ensures.opened h in
+    (opened.0, subst (λ (t : Table). IsIndexOf c.args.url.now t (g.D.Disk.seen c.args.disk 0)) (sym (ap (λ (t : DeskTable). t.index) c.start-in-Ok.ensures)) opened.1)
+
+pub returns-in-Ok-clause-indexed : goal.returns-in-Ok-clause-indexed
+returns-in-Ok-clause-indexed g c =
+    let indexed = c.in-Ok.ensures.indexed in
+    (indexed.0, subst (λ (t : Table). IsIndexOf c.args.url.now t indexed.0) (sym (ap (λ (t : DeskTable). t.index) c.start-in-Ok.ensures)) indexed.1)

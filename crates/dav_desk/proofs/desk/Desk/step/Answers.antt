@@ -25,6 +25,7 @@ use Rattle.dav_deeds.specs.declared.plan.Planned.{Planned}
 use Rattle.dav_deeds.specs.declared.deed.Step.{Step}
 use Rattle.dav_desk.specs.Changed.{fresh_by, freed_by, IsPut}
 use Rattle.dav_desk.proofs.Changing.{idle_frees, stored_nothing, empty_nothing, ok_map, on_ok_map}
+use Rattle.dav_desk.proofs.Calling.{asked_spare, uncalled, spare_taken, by_step}
 use Rattle.dav_desk.proofs.desk.Desk.step.Goals as goal
 
 pub returns-in-Some-clause-asked : goal.returns-in-Some-clause-asked
@@ -148,3 +149,35 @@ returns-in_default-2-clause-sum g c body wants =
     let t = c.args.self.now.table in
     let plan : IsPlan t c.args.who c.args.now c.args.ask.now None c.plan.new.row.items = subst (λ (p : Option Planned). IsPlan t c.args.who c.args.now c.args.ask.now p c.plan.new.row.items) c.in_default-2.is c.in_ok-planned.ensures.plan in
     let no : None ≡ Some body = ap wanted (sym plan.0) ∙ wants in cc no
+
+pub returns-in-Some-clause-called : goal.returns-in-Some-clause-called
+returns-in-Some-clause-called g c = uncalled g.D.Disk.honest g.D.Disk.moment g.D.Disk.seen g.D.Disk.past c.args.who c.args.now c.args.ask.now c.args.self.now c.args.self.now refl refl refl (λ alive. alive)
+
+pub returns-in_err-planned-clause-called : goal.returns-in_err-planned-clause-called
+returns-in_err-planned-clause-called g c = uncalled g.D.Disk.honest g.D.Disk.moment g.D.Disk.seen g.D.Disk.past c.args.who c.args.now c.args.ask.now c.args.self.now c.args.self.now refl refl refl (λ alive. alive)
+
+pub returns-in_default-2-clause-called : goal.returns-in_default-2-clause-called
+returns-in_default-2-clause-called g c = uncalled g.D.Disk.honest g.D.Disk.moment g.D.Disk.seen g.D.Disk.past c.args.who c.args.now c.args.ask.now c.args.self.now c.args.self.now refl refl refl (λ alive. alive)
+
+pub returns-in_err-saved-clause-called : goal.returns-in_err-saved-clause-called
+returns-in_err-saved-clause-called g c = uncalled g.D.Disk.honest g.D.Disk.moment g.D.Disk.seen g.D.Disk.past c.args.who c.args.now c.args.ask.now c.args.self.now c.args.self.now refl refl refl (λ alive. alive)
+
+pub returns-then-ends_job-clause-called : goal.returns-then-ends_job-clause-called
+returns-then-ends_job-clause-called g c =
+    let step = c.plan_end-planned.result.made.step in
+    spare_taken g.D.Disk.honest g.D.Disk.moment g.D.Disk.seen g.D.Disk.past c.args.who c.args.now c.args.ask.now c.args.self.now c.carry_out.new.self c.take.new.self
+    (by_step g.D.Disk.honest g.D.Disk.moment g.D.Disk.seen g.D.Disk.past c.args.who step.who c.args.now step.now c.args.ask.now (record c.args.self.now { spare = c.take.new.self }) c.carry_out.new.self
+    (ap (λ (s : Step). s.who) c.plan_end-planned.ensures.step) (ap (λ (s : Step). s.now) c.plan_end-planned.ensures.step) c.carry_out.ensures.called)
+
+pub returns-clause-called : goal.returns-clause-called
+returns-clause-called g c =
+    let t = c.args.self.now.table in
+    let plan : IsPlan t c.args.who c.args.now c.args.ask.now (Some c.in-Some-2.planned) c.plan.new.row.items = subst (λ (p : Option Planned). IsPlan t c.args.who c.args.now c.args.ask.now p c.plan.new.row.items) c.in-Some-2.is c.in_ok-planned.ensures.plan in
+    by_step g.D.Disk.honest g.D.Disk.moment g.D.Disk.seen g.D.Disk.past c.args.who c.in-Some-2.planned.made.step.who c.args.now c.in-Some-2.planned.made.step.now c.args.ask.now c.args.self.now c.carry_out-2.new.self
+    (ap (λ (s : Step). s.who) plan.step) (ap (λ (s : Step). s.now) plan.step) c.carry_out-2.ensures.called
+
+pub returns-then-ends_job-clause-asked : goal.returns-then-ends_job-clause-asked
+returns-then-ends_job-clause-asked g c =
+    let step = c.plan_end-planned.result.made.step in
+    asked_spare g.D.Disk.honest g.D.Disk.moment g.D.Disk.seen g.D.Disk.faults c.args.who step.who c.args.now step.now c.args.ask.now c.args.self.now c.carry_out.new.self c.take.new.self c.carry_out.result
+    (ap (λ (s : Step). s.who) c.plan_end-planned.ensures.step) (ap (λ (s : Step). s.now) c.plan_end-planned.ensures.step) (sym c.in_default.ensures) c.carry_out.ensures.asked

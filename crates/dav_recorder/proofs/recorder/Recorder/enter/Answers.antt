@@ -1,4 +1,4 @@
-use Rattle.std.proofs.Common.{◌≡◌, inl, ℕ, ◌∷◌, [], ◌++◌, refl, sym, ◌∙◌, ap, subst}
+use Rattle.std.proofs.Common.{◌≡◌, inl, ℕ, ◌∷◌, [], ◌++◌, refl, sym, ◌∙◌, ap, subst, arith}
 use Rattle.dav_store.specs.Rows.{IsReady}
 use Rattle.dav_index.specs.Tables.{replay}
 use Rattle.dav_deeds.specs.Legal.{table_after}
@@ -56,8 +56,8 @@ returns-in-Err-Before-clause-changes g c h = record { touches = c.commit.ensures
 pub returns-in-Err-Under-clause-changes : goal.returns-in-Err-Under-clause-changes
 returns-in-Err-Under-clause-changes g c h = record { touches = c.commit.ensures.touches h; others = c.commit.ensures.others h }
 
-pub returns-in-Err-Before-clause-early : goal.returns-in-Err-Before-clause-early
-returns-in-Err-Before-clause-early g c h = let early = rw c.in-Err-Before.field-0-is at c.in-Err-Before.ensures.early h in inl (early refl)
+pub returns-in-Err-Before-clause-under : goal.returns-in-Err-Before-clause-under
+returns-in-Err-Before-clause-under g c = let unbegun = rw c.in-Err-Before.field-0-is at c.in-Err-Before.ensures.unbegun in inl (unbegun refl, refl)
 
 pub returns-in-Ok-clause-stored : goal.returns-in-Ok-clause-stored
 returns-in-Ok-clause-stored g c h_end =
@@ -68,3 +68,8 @@ pub returns-in-Ok-clause-emptied : goal.returns-in-Ok-clause-emptied
 returns-in-Ok-clause-emptied g c h_end =
     let h = subst (λ (d : Recorder g.row.D.Denot). g.D.Disk.honest d.disk) c.push.ensures.rest h_end in
     subst (λ (d : Recorder g.row.D.Denot). AreEmpty c.args.freed.now (g.D.Disk.seen d.disk) (g.D.Disk.past d.disk (g.D.Disk.moment d.disk))) (sym c.push.ensures.rest) (c.in-Ok.ensures.emptied h)
+
+pub returns-in-Ok-clause-counts : goal.returns-in-Ok-clause-counts
+returns-in-Ok-clause-counts g c =
+    let same = ap (λ (r : Recorder g.row.D.Denot). g.D.Disk.moment r.disk) c.push.ensures.rest in
+    record { later = omega (arith, same, c.in-Ok.ensures.counts.later); all = omega (arith, same, c.in-Ok.ensures.counts.all); no_more = omega (arith, same, c.in-Ok.ensures.counts.no_more) }

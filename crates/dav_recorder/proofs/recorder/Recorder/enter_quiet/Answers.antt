@@ -1,4 +1,4 @@
-use Rattle.std.proofs.Common.{◌≡◌, ℕ, ◌∷◌, [], ◌++◌, inl, refl, sym, ◌∙◌, ap, subst}
+use Rattle.std.proofs.Common.{◌≡◌, ℕ, ◌∷◌, [], ◌++◌, inl, refl, sym, ◌∙◌, ap, subst, arith}
 use Rattle.dav_store.specs.Rows.{IsReady}
 use Rattle.dav_index.specs.Bounds.{bodies_of}
 use Rattle.dav_deeds.specs.Legal.{table_after}
@@ -55,3 +55,8 @@ pub returns-in-Ok-clause-emptied : goal.returns-in-Ok-clause-emptied
 returns-in-Ok-clause-emptied g c h_end =
     let h = subst (λ (d : Recorder g.row.D.Denot). g.D.Disk.honest d.disk) c.push.ensures.rest h_end in
     subst (λ (d : Recorder g.row.D.Denot). AreEmpty c.args.freed.now (g.D.Disk.seen d.disk) (g.D.Disk.past d.disk (g.D.Disk.moment d.disk))) (sym c.push.ensures.rest) (c.in-Ok.ensures.emptied h)
+
+pub returns-in-Ok-clause-counts : goal.returns-in-Ok-clause-counts
+returns-in-Ok-clause-counts g c =
+    let same = ap (λ (r : Recorder g.row.D.Denot). g.D.Disk.moment r.disk) c.push.ensures.rest in
+    record { later = omega (arith, same, c.in-Ok.ensures.counts.later); all = omega (arith, same, c.in-Ok.ensures.counts.all); no_more = omega (arith, same, c.in-Ok.ensures.counts.no_more) }

@@ -2,12 +2,12 @@ use Rattle.std.proofs.Common.{◌≤◌, Some, arith, refl, sym, ◌∙◌, ap, 
 use Rattle.dav_disk.specs.Disk.{AllStay}
 use Rattle.dav_store.specs.Rows.{IsReady}
 use Rattle.dav_deeds.specs.declared.fault.DeskFault.{DeskFault}
-use Rattle.dav_recorder.specs.Opening.{IsFetchFault}
+use Rattle.dav_recorder.specs.Opening.{IsFetchFault, IsUndamaged}
 use Rattle.dav_recorder.specs.Survives.{IsLive}
 use Rattle.dav_recorder.specs.declared.recorder.Recorder.{Recorder}
 use Rattle.dav_recorder.proofs.LiveLemmas.{live_looks}
 use Rattle.dav_recorder.proofs.Standing.{rest_moves}
-use Rattle.dav_recorder.proofs.StartLemmas.{fetch_fault, dead_of, starved_of}
+use Rattle.dav_recorder.proofs.StartLemmas.{fetch_fault, fetch_undamaged, dead_of, starved_of}
 use Rattle.dav_recorder.specs.Files.{ChangesOnly}
 use Rattle.dav_recorder.proofs.recorder.Recorder.fetch.Goals as goal
 
@@ -68,3 +68,18 @@ pub returns-in-Err-clause-changes : goal.returns-in-Err-clause-changes
 returns-in-Err-clause-changes g c h_end =
     let h = subst (λ (d : Recorder g.row.D.Denot). g.D.Disk.honest d.disk) c.fail.ensures.rest h_end in
     subst (λ (d : Recorder g.row.D.Denot). ChangesOnly g.D.Disk.moment g.D.Disk.seen g.D.Disk.past (λ _. ⊥) c.args.self.now.disk d.disk) (sym c.fail.ensures.rest) (record { touches = c.fetch.ensures.touches h; others = λ f out. c.fetch.ensures.seen h f })
+
+pub returns-in-Err-clause-undamaged : goal.returns-in-Err-clause-undamaged
+returns-in-Err-clause-undamaged g c h_end url opening start given is named =
+    let h = subst (λ (d : Recorder g.row.D.Denot). g.D.Disk.honest d.disk) c.fail.ensures.rest h_end in
+    let d0 = c.args.self.now.disk in
+    let id = c.args.id.now in
+    let held = is.consistent.safe.kept id named in
+    subst IsUndamaged (sym c.fail.ensures.fault)
+    (fetch_undamaged (g.D.Disk.honest c.fetch.new.disk) h id (g.D.Disk.seen d0 id.file) (given id.file) c.in-Err.fault c.in-Err.ensures.damaged
+    (held.begins (g.D.Disk.seen d0 id.file) (g.met.D.Disk.reads d0 (c.fetch.ensures.keeps h) id.file)) held.is_body)
+
+pub returns-in-Err-clause-counts : goal.returns-in-Err-clause-counts
+returns-in-Err-clause-counts g c =
+    let same = ap (λ (r : Recorder g.row.D.Denot). g.D.Disk.moment r.disk) c.fail.ensures.rest in
+    record { later = omega (arith, same, c.in-Err.ensures.counts.later); all = tt; no_more = omega (arith, same, c.in-Err.ensures.counts.no_more) }

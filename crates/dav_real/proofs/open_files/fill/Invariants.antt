@@ -1,5 +1,5 @@
 use Rattle.std.proofs.Common.{◌≤◌, length}
-use Rattle.dav_real.proofs.folder_calls.fill.Given as goal
+use Rattle.dav_real.proofs.open_files.fill.Given as goal
 
 abbrev pub invariant-loop : goal.invariant-loop
 invariant-loop g l = l.filled ≤ length l.buf
