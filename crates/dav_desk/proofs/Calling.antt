@@ -26,12 +26,14 @@ use Rattle.dav_deeds.specs.declared.fault.DeskFault.{DeskFault}
 use Rattle.dav_deeds.specs.declared.fault.DeskFault.TheVariants.{Disk}
 use Rattle.dav_deeds.specs.declared.plan.Planned.{Planned}
 use Rattle.dav_deeds.specs.declared.spare.Spare.{Spare}
+use Rattle.std.specs.List.{Contains}
+use Rattle.dav_recorder.specs.Opening.{IsUndamaged}
 use Rattle.dav_recorder.specs.Calls.{body_calls, entry_calls, freeing_calls, IsUnbegun, IsBegun, IsUnder}
 use Rattle.dav_recorder.specs.Files.{ChangesOnly, IsStored}
 use Rattle.dav_recorder.specs.Stands.{IsFile}
 use Rattle.dav_recorder.specs.declared.recorder.Recorder.{Recorder}
 use Rattle.dav_recorder.proofs.LiveLemmas.{stamped}
-use Rattle.dav_recorder.proofs.Filing.{changes_behind}
+use Rattle.dav_recorder.proofs.Filing.{changes_none, changes_wider, changes_behind}
 use Rattle.dav_desk.specs.Called.{told_calls, put_calls, calls_by, IsCounted, WasBegun, WasUnbegun, IsCalled}
 use Rattle.dav_desk.specs.Calls.{row_calls}
 use Rattle.dav_desk.specs.Changed.{fresh_by, freed_by}
@@ -124,16 +126,19 @@ module _ {D : Type 0} (honest : D → Type 0) (moment : D → ℕ) (seen : D →
   uncalled disk items under lives = record {
     counted = record { later = omega (arith, ap moment disk); no_more = omega (arith, ap moment disk); each = λ s more. absurd (longer old.recorder.trace.steps.items new.recorder.trace.steps.items s items more) };
     under = inr (record { same = under; unbegun = λ alive dead some. let no : Some Disk ≡ None = sym dead ∙ lives alive in cc no });
+    quiet = λ h none. changes_none moment seen past (Contains (freed_by old.table now ask)) old.recorder.disk new.recorder.disk disk;
   }
 
   -- the bytes of a job were not to be had
   pub unread : (flight : Flight) → told_of old.table now (deed_of old.table ask) ≡ Some (Took flight) → moment old.recorder.disk ≤ moment new.recorder.disk → moment new.recorder.disk ≤ moment old.recorder.disk + 1
-      → new.recorder.trace.steps.items ≡ old.recorder.trace.steps.items → new.recorder.under ≡ old.recorder.under → IsCalled honest moment seen past who now ask old new
-  unread flight told later most items under =
+      → new.recorder.trace.steps.items ≡ old.recorder.trace.steps.items → new.recorder.under ≡ old.recorder.under → (honest new.recorder.disk → ChangesOnly moment seen past (λ _. ⊥) old.recorder.disk new.recorder.disk)
+      → IsCalled honest moment seen past who now ask old new
+  unread flight told later most items under looks =
       let one : told_calls (told_of old.table now (deed_of old.table ask)) ≡ 1 = ap (λ (o : Option Told). told_calls o) told in
       record {
         counted = record { later = later; no_more = omega (arith, most, one); each = λ s more. absurd (longer old.recorder.trace.steps.items new.recorder.trace.steps.items s items more) };
         under = inr (record { same = under; unbegun = λ alive dead some. absurd (some (took_quiet old.table now ask flight told)) });
+        quiet = λ h none. changes_wider moment seen past (λ _. ⊥) (Contains (freed_by old.table now ask)) old.recorder.disk new.recorder.disk (λ f never. absurd never) (looks h);
       }
 
   -- the step was to be put on the disk, once there was room for it in r, and the bytes of its job were read in q
@@ -173,6 +178,13 @@ module _ {D : Type 0} (honest : D → Type 0) (moment : D → ℕ) (seen : D →
         none_told_calls planned.made.step.told (λ flight is. row_not_there found row plan.row_is some (took_quiet old.table now ask flight (sym told_is ∙ is))) in
         omega (arith, read, none, ap moment reserved)
 
+    changes_quiet : (honest new.recorder.disk → ChangesOnly moment seen past (λ _. ⊥) r.disk q.disk) → (honest new.recorder.disk → row ≡ [] → ChangesOnly moment seen past (Contains freed) q.disk new.recorder.disk)
+        → honest new.recorder.disk → found ≡ None → ChangesOnly moment seen past (Contains (freed_by old.table now ask)) old.recorder.disk new.recorder.disk
+    changes_quiet looks quietly h none =
+        subst (λ (d : D). ChangesOnly moment seen past (Contains (freed_by old.table now ask)) d new.recorder.disk) reserved
+        (subst (λ (l : List ℕ). ChangesOnly moment seen past (Contains l) r.disk new.recorder.disk) all_freed
+        (changes_behind moment seen past (Contains freed) r.disk q.disk new.recorder.disk (looks h) (quietly h (plan.row_is ∙ ap (λ (o : Option Record). row_of o) none))))
+
     -- it was stopped
     module _ (later : moment q.disk ≤ moment new.recorder.disk) (most : moment new.recorder.disk ≤ moment q.disk + row_calls row (file_in (new_body planned.made.step.deed)) freed) where
       at_most : moment new.recorder.disk ≤ moment old.recorder.disk + calls_by old.table now ask
@@ -182,10 +194,11 @@ module _ {D : Type 0} (honest : D → Type 0) (moment : D → ℕ) (seen : D →
       not_before = omega (arith, later, read, ap moment reserved)
 
       pub failed : new.recorder.dead ≡ Some Disk → new.recorder.trace.steps.items ≡ q.trace.steps.items → (honest new.recorder.disk → ChangesOnly moment seen past (λ _. ⊥) r.disk q.disk)
+          → (honest new.recorder.disk → row ≡ [] → ChangesOnly moment seen past (Contains freed) q.disk new.recorder.disk)
           → (row ≡ [] → new.recorder.under ≡ q.under)
           → (row ≢ [] → IsUnder honest moment seen past (file_in (new_body planned.made.step.deed)) bytes freed planned.made.step q.disk new.recorder.disk q.under new.recorder.under)
           → IsCalled honest moment seen past who now ask old new
-      failed dead items looks quiet begun = record {
+      failed dead items looks quietly quiet begun = record {
         counted = record {
           later = not_before;
           no_more = at_most;
@@ -207,6 +220,7 @@ module _ {D : Type 0} (honest : D → Type 0) (moment : D → ℕ) (seen : D →
             })
           ]
         ];
+        quiet = changes_quiet looks quietly;
       }
         where
           asked_under : IsUnder honest moment seen past (file_in (new_body planned.made.step.deed)) bytes freed planned.made.step q.disk new.recorder.disk q.under new.recorder.under
@@ -219,8 +233,9 @@ module _ {D : Type 0} (honest : D → Type 0) (moment : D → ℕ) (seen : D →
     -- it stands in the trace
     pub went : moment new.recorder.disk ≡ moment q.disk + row_calls row (file_in (new_body planned.made.step.deed)) freed
         → new.recorder.trace.steps.items ≡ q.trace.steps.items ++ stamped planned.made.step (moment new.recorder.disk) ∷ [] → new.recorder.under ≡ q.under → new.recorder.dead ≡ None
+        → (honest new.recorder.disk → ChangesOnly moment seen past (λ _. ⊥) r.disk q.disk) → (honest new.recorder.disk → row ≡ [] → ChangesOnly moment seen past (Contains freed) q.disk new.recorder.disk)
         → IsCalled honest moment seen past who now ask old new
-    went counted items under lives =
+    went counted items under lives looks quietly =
         let exact : moment new.recorder.disk ≡ moment old.recorder.disk + calls_by old.table now ask = omega (arith, counted, read, calls_are, ap moment reserved) in
         let grown : new.recorder.trace.steps.items ≡ old.recorder.trace.steps.items ++ stamped planned.made.step (moment new.recorder.disk) ∷ [] =
         items ∙ ap (λ (l : List Step). l ++ stamped planned.made.step (moment new.recorder.disk) ∷ []) items_old in
@@ -231,6 +246,7 @@ module _ {D : Type 0} (honest : D → Type 0) (moment : D → ℕ) (seen : D →
             each = λ s more. (ap (λ (x : Step). x.moment) (last_is old.recorder.trace.steps.items new.recorder.trace.steps.items s (stamped planned.made.step (moment new.recorder.disk)) more grown), exact);
           };
           under = inr (record { same = under ∙ under_old; unbegun = λ alive dead some. let no : Some Disk ≡ None = sym dead ∙ lives in cc no });
+          quiet = changes_quiet looks quietly;
         }
 
 -- the same of a desk whose memory for the end of its job was taken out before
@@ -242,6 +258,7 @@ spare_taken honest moment seen past who now ask old new spare is = record {
     | inl was ↦ inl (record { has_record = was.has_record; dead = was.dead; begun = was.begun; under = was.under })
     | inr was ↦ inr (record { same = was.same; unbegun = was.unbegun })
   ];
+  quiet = is.quiet;
 }
 
 -- it was this who and this time
@@ -271,3 +288,11 @@ asked_spare {D} honest moment seen faults who who_now now then ask old new spare
       | inr died ↦ inr (record { alive = died.alive; dead = died.dead; ends = died.ends; cause = died.cause; under = died.under })
     ]
     caused Starved cause = uncalled_too cause
+
+-- a desk that lives didn't die of a damaged body
+pub alive_undamaged : (dead : Option DeskFault) (fault : DeskFault) → dead ≡ None → dead ≡ Some fault → IsUndamaged fault
+alive_undamaged dead fault alive died = let no : Some fault ≡ None = sym died ∙ alive in cc no
+
+-- nor one that died of another fault
+pub died_undamaged : (dead : Option DeskFault) (e fault : DeskFault) → dead ≡ Some e → IsUndamaged e → dead ≡ Some fault → IsUndamaged fault
+died_undamaged dead e fault died undamaged is = let same : Some e ≡ Some fault = sym died ∙ is in subst IsUndamaged (cc same) undamaged

@@ -11,6 +11,8 @@ use Rattle.dav_deeds.specs.declared.ask.Ask.{Ask}
 use Rattle.dav_deeds.specs.declared.ask.Who.{Who}
 use Rattle.dav_deeds.specs.declared.deed.Step.{Step}
 use Rattle.dav_deeds.specs.declared.fault.DeskFault.TheVariants.{Disk}
+use Rattle.std.specs.List.{Contains}
+use Rattle.dav_recorder.specs.Files.{ChangesOnly}
 use Rattle.dav_recorder.specs.Calls.{entry_calls, freeing_calls, IsUnbegun, IsBegun}
 use Rattle.dav_desk.specs.Changed.{fresh_by, freed_by}
 use Rattle.dav_desk.specs.Entry.{bytes_in}
@@ -58,6 +60,9 @@ module _ {D : Type 0} (honest : D → Type 0) (moment : D → ℕ) (seen : D →
     pub unbegun : old.recorder.dead ≡ None → new.recorder.dead ≡ Some Disk → record_of old.table now (deed_of old.table ask) ≢ None
         → IsUnbegun honest moment seen past (fresh_by old.table ask) old.recorder.disk new.recorder.disk
 
+  -- An ask without a record, as one that is refused, changes no file but those that nothing needs any more: not the index.
   pub record IsCalled : Type 0 where
     pub counted : IsCounted moment now ask old new
     pub under : WasBegun ⊎ WasUnbegun
+    pub quiet : honest new.recorder.disk → record_of old.table now (deed_of old.table ask) ≡ None
+        → ChangesOnly moment seen past (Contains (freed_by old.table now ask)) old.recorder.disk new.recorder.disk

@@ -10,11 +10,12 @@ ghost use Rattle.dav_deeds.specs.Legal.{IsAsk, deed_of};
 ghost use Rattle.dav_deeds.specs.Spare.{HasSpare, kept_spare as kept_spare_lem, ends_job};
 ghost use Rattle.dav_deeds.specs.declared.answer.Fated.{Fated};
 ghost use Rattle.dav_deeds.specs.declared.answer.Told.TheVariants.{Settled};
+ghost use Rattle.dav_deeds.specs.declared.fault.DeskFault.{DeskFault as TheFault};
 ghost use Rattle.dav_deeds.specs.declared.fault.DeskFault.TheVariants.{Memory as MemoryFault};
 ghost use Rattle.dav_deeds.specs.Sound.{IsSound};
 ghost use Rattle.dav_recorder.specs.Stands.{EachImage};
 ghost use Rattle.dav_recorder.specs.Recovers.{Recovers, AllRecover};
-ghost use Rattle.dav_recorder.specs.Opening.{IsIndexOf, IsStartFault};
+ghost use Rattle.dav_recorder.specs.Opening.{IsIndexOf, IsStartFault, IsUndamaged};
 ghost use Rattle.dav_deeds.specs.Change.{IsPlan};
 ghost use Rattle.dav_desk.specs.Verdict.{with_bytes as with_bytes_lem};
 ghost use Rattle.dav_desk.specs.Ends.{IsEnd};
@@ -145,6 +146,8 @@ impl<D: Disk> Desk<D> {
         ensures changes { D.honest self.new.recorder.disk → ChangesAsked D.moment D.seen D.past now ask.now self.old self.new }
         ensures put { D.honest self.new.recorder.disk → OnOk result (IsPut D.moment D.seen D.past now ask.now self.old self.new) }
         ensures ends { ends_job self.old.table.job ask.now ≡ true → IfErr result (λ e. e ≢ MemoryFault) }
+        ensures undamaged { D.honest self.new.recorder.disk → (url : List ℕ) (opening : DeskTable) (start : ℕ) (given : ℕ → List ℕ) → IsWorking D.moment D.seen D.past url opening start given self.old
+            → (fault : TheFault) → self.new.recorder.dead ≡ Some fault → IsUndamaged fault }
         ensures called { IsCalled D.honest D.moment D.seen D.past who now ask.now self.old self.new }
         ensures keeps { D.honest self.new.recorder.disk → D.honest self.old.recorder.disk }
         ensures faults { D.faults self.old.recorder.disk ≤ D.faults self.new.recorder.disk }
@@ -196,6 +199,8 @@ impl<D: Disk> Desk<D> {
         ensures changes { D.honest self.new.recorder.disk → ChangesAsked D.moment D.seen D.past planned.made.step.now ask.now self.old self.new }
         ensures put { D.honest self.new.recorder.disk → OnOk result (IsPut D.moment D.seen D.past planned.made.step.now ask.now self.old self.new) }
         ensures ends { (fated : Fated) → planned.made.step.told ≡ Some (Settled fated) → IfErr result (λ e. e ≢ MemoryFault) }
+        ensures undamaged { D.honest self.new.recorder.disk → (url : List ℕ) (opening : DeskTable) (start : ℕ) (given : ℕ → List ℕ) → IsWorking D.moment D.seen D.past url opening start given self.old
+            → (fault : TheFault) → self.new.recorder.dead ≡ Some fault → IsUndamaged fault }
         ensures called { IsCalled D.honest D.moment D.seen D.past planned.made.step.who planned.made.step.now ask.now self.old self.new }
         ensures keeps { D.honest self.new.recorder.disk → D.honest self.old.recorder.disk }
         ensures faults { D.faults self.old.recorder.disk ≤ D.faults self.new.recorder.disk }
