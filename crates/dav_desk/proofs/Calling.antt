@@ -1,8 +1,7 @@
 -- The device calls of a step, and which one is under way, at each of its exits.
-use Rattle.std.proofs.Common.{◌≡◌, ◌≢◌, ◌⊎◌, inl, inr, ℕ, ◌+◌, ◌≤◌, List, [], ◌∷◌, ◌++◌, length, Bool, Option, Some, None, Result, Ok, Err, OnOk, refl, sym, ◌∙◌, ap, subst, arith, length-append}
+use Rattle.std.proofs.Common.{◌≡◌, ◌≢◌, ◌⊎◌, inl, inr, ℕ, ◌+◌, ◌≤◌, List, [], ◌∷◌, ◌++◌, length, Bool, Option, Some, None, Result, refl, sym, ◌∙◌, ap, subst, arith, length-append}
 use Rattle.dav_text.specs.Path.{PathParts}
 use Rattle.dav_disk.specs.Disk.{Doubt}
-use Rattle.dav_store.specs.Counts.{IsCountedAs}
 use Rattle.dav_store.specs.declared.body_id.BodyId.{BodyId}
 use Rattle.dav_index.specs.declared.record.Record.{Record}
 use Rattle.dav_deeds.specs.DeskTable.{DeskTable}
@@ -19,7 +18,6 @@ use Rattle.dav_deeds.specs.declared.ask.Ask.{Ask}
 use Rattle.dav_deeds.specs.declared.ask.Ask.TheVariants as asks
 use Rattle.dav_deeds.specs.declared.ask.Done.{Done}
 use Rattle.dav_deeds.specs.declared.ask.Who.{Who}
-use Rattle.dav_deeds.specs.declared.deed.Deed.{Deed}
 use Rattle.dav_deeds.specs.declared.deed.Deed.TheVariants as deeds
 use Rattle.dav_deeds.specs.declared.deed.Step.{Step}
 use Rattle.dav_deeds.specs.declared.fault.DeskFault.{DeskFault}
@@ -28,19 +26,19 @@ use Rattle.dav_deeds.specs.declared.plan.Planned.{Planned}
 use Rattle.dav_deeds.specs.declared.spare.Spare.{Spare}
 use Rattle.std.specs.List.{Contains}
 use Rattle.dav_recorder.specs.Opening.{IsUndamaged}
-use Rattle.dav_recorder.specs.Calls.{body_calls, entry_calls, freeing_calls, IsUnbegun, IsBegun, IsUnder}
-use Rattle.dav_recorder.specs.Files.{ChangesOnly, IsStored}
+use Rattle.dav_recorder.specs.Calls.{entry_calls, IsUnder}
+use Rattle.dav_recorder.specs.Files.{ChangesOnly}
 use Rattle.dav_recorder.specs.Stands.{IsFile}
 use Rattle.dav_recorder.specs.declared.recorder.Recorder.{Recorder}
 use Rattle.dav_recorder.proofs.LiveLemmas.{stamped}
 use Rattle.dav_recorder.proofs.Filing.{changes_none, changes_wider, changes_behind}
-use Rattle.dav_desk.specs.Called.{told_calls, put_calls, calls_by, IsCounted, WasBegun, WasUnbegun, IsCalled}
+use Rattle.dav_desk.specs.Called.{told_calls, put_calls, calls_by, IsCalled}
 use Rattle.dav_desk.specs.Calls.{row_calls}
 use Rattle.dav_desk.specs.Changed.{fresh_by, freed_by}
 use Rattle.dav_desk.specs.Entry.{bytes_in, file_in}
 use Rattle.dav_deeds.specs.declared.answer.Answer.{Answer}
 use Rattle.dav_desk.specs.Ended.{LivesOn, IsUncalled, HasCause, IsAsked}
-use Rattle.dav_desk.specs.Verdict.{Verdict, Went, Stopped, Starved, step_of}
+use Rattle.dav_desk.specs.Verdict.{Verdict, Went, Stopped, Starved}
 use Rattle.dav_desk.specs.declared.desk.Desk.{Desk}
 use Rattle.dav_desk.proofs.Asking.{stamped_is}
 use Rattle.dav_desk.proofs.Entering.{text_wide}
@@ -207,11 +205,14 @@ module _ {D : Type 0} (honest : D → Type 0) (moment : D → ℕ) (seen : D →
         under = elim (is_row row) [
           | inl none ↦ inr (record { same = quiet none ∙ under_old; unbegun = λ alive died some. absurd (row_there found row plan.row_is some none) })
           | inr some ↦ elim (asked_under (begun some)) [
-            | inl un ↦ inr (record { same = un.1 ∙ under_old; unbegun = λ alive died there. record {
-              has_body = un.0.has_body;
-              early = let early = un.0.early in let none = none_told some in omega (arith, early, none);
-              changes = λ h. subst (λ (d : D). ChangesOnly moment seen past (IsFile (fresh_by old.table ask)) d new.recorder.disk) reserved (changes_behind moment seen past (IsFile (fresh_by old.table ask)) r.disk q.disk new.recorder.disk (looks h) (un.0.changes h));
-            } })
+            | inl un ↦ inr (record {
+              same = un.1 ∙ under_old;
+              unbegun = λ alive died there. record {
+                has_body = un.0.has_body;
+                early = let early = un.0.early in let none = none_told some in omega (arith, early, none);
+                changes = λ h. subst (λ (d : D). ChangesOnly moment seen past (IsFile (fresh_by old.table ask)) d new.recorder.disk) reserved (changes_behind moment seen past (IsFile (fresh_by old.table ask)) r.disk q.disk new.recorder.disk (looks h) (un.0.changes h));
+              };
+            })
             | inr be ↦ inl (record {
               has_record = row_not_there found row plan.row_is some;
               dead = dead;
