@@ -32,7 +32,7 @@ use Rattle.dav_recorder.specs.Stands.{IsFile}
 use Rattle.dav_recorder.specs.declared.recorder.Recorder.{Recorder}
 use Rattle.dav_recorder.proofs.LiveLemmas.{stamped}
 use Rattle.dav_recorder.proofs.Filing.{changes_none, changes_wider, changes_behind}
-use Rattle.dav_desk.specs.Called.{told_calls, put_calls, calls_by, IsCalled}
+use Rattle.dav_desk.specs.Called.{AreTimed, told_calls, put_calls, calls_by, IsCalled}
 use Rattle.dav_desk.specs.Calls.{row_calls}
 use Rattle.dav_desk.specs.Changed.{fresh_by, freed_by}
 use Rattle.dav_desk.specs.Entry.{bytes_in, file_in}
@@ -117,12 +117,29 @@ last_is xs ys x y one two = same_last xs x y (sym one ∙ two)
     same_last [] x y is = cc is
     same_last (z ∷ xs) x y is = same_last xs x y (cc is)
 
+-- moments that were in order are so later, and with one more
+pub timed_later : (from : ℕ) (steps : List Step) (a b : ℕ) → a ≤ b → AreTimed from steps a → AreTimed from steps b
+timed_later from [] a b le is = omega (arith, le, is)
+timed_later from (s ∷ steps) a b le is = (is.0, timed_later s.moment steps a b le is.1)
+
+timed_more : (from : ℕ) (steps : List Step) (s : Step) (a : ℕ) → AreTimed from steps a → a ≤ s.moment → AreTimed from (steps ++ s ∷ []) s.moment
+timed_more from [] s a is le = (omega (arith, is, le), omega arith)
+timed_more from (x ∷ steps) s a is le = (is.0, timed_more x.moment steps s a is.1 le)
+
+timed_still : (from : ℕ) (steps steps_now : List Step) (a b : ℕ) → steps_now ≡ steps → a ≤ b → AreTimed from steps a → AreTimed from steps_now b
+timed_still from steps steps_now a b same le is = subst (λ (l : List Step). AreTimed from l b) (sym same) (timed_later from steps a b le is)
+
 module _ {D : Type 0} (honest : D → Type 0) (moment : D → ℕ) (seen : D → ℕ → List ℕ) (past : D → ℕ → ℕ → Doubt) (who : Who) (now : ℕ) (ask : Ask) (old new : Desk D) where
   -- no call was made
   pub uncalled : new.recorder.disk ≡ old.recorder.disk → new.recorder.trace.steps.items ≡ old.recorder.trace.steps.items → new.recorder.under ≡ old.recorder.under
       → (old.recorder.dead ≡ None → new.recorder.dead ≡ None) → IsCalled honest moment seen past who now ask old new
   uncalled disk items under lives = record {
-    counted = record { later = omega (arith, ap moment disk); no_more = omega (arith, ap moment disk); each = λ s more. absurd (longer old.recorder.trace.steps.items new.recorder.trace.steps.items s items more) };
+    counted = record {
+      later = omega (arith, ap moment disk);
+      no_more = omega (arith, ap moment disk);
+      each = λ s more. absurd (longer old.recorder.trace.steps.items new.recorder.trace.steps.items s items more);
+      timed = λ from is. timed_still from old.recorder.trace.steps.items new.recorder.trace.steps.items (moment old.recorder.disk) (moment new.recorder.disk) items (omega (arith, ap moment disk)) is;
+    };
     under = inr (record { same = under; unbegun = λ alive dead some. let no : Some Disk ≡ None = sym dead ∙ lives alive in cc no });
     quiet = λ h none. changes_none moment seen past (Contains (freed_by old.table now ask)) old.recorder.disk new.recorder.disk disk;
   }
@@ -134,7 +151,12 @@ module _ {D : Type 0} (honest : D → Type 0) (moment : D → ℕ) (seen : D →
   unread flight told later most items under looks =
       let one : told_calls (told_of old.table now (deed_of old.table ask)) ≡ 1 = ap (λ (o : Option Told). told_calls o) told in
       record {
-        counted = record { later = later; no_more = omega (arith, most, one); each = λ s more. absurd (longer old.recorder.trace.steps.items new.recorder.trace.steps.items s items more) };
+        counted = record {
+          later = later;
+          no_more = omega (arith, most, one);
+          each = λ s more. absurd (longer old.recorder.trace.steps.items new.recorder.trace.steps.items s items more);
+          timed = λ from is. timed_still from old.recorder.trace.steps.items new.recorder.trace.steps.items (moment old.recorder.disk) (moment new.recorder.disk) items later is;
+        };
         under = inr (record { same = under; unbegun = λ alive dead some. absurd (some (took_quiet old.table now ask flight told)) });
         quiet = λ h none. changes_wider moment seen past (λ _. ⊥) (Contains (freed_by old.table now ask)) old.recorder.disk new.recorder.disk (λ f never. absurd never) (looks h);
       }
@@ -201,6 +223,7 @@ module _ {D : Type 0} (honest : D → Type 0) (moment : D → ℕ) (seen : D →
           later = not_before;
           no_more = at_most;
           each = λ s more. absurd (longer old.recorder.trace.steps.items new.recorder.trace.steps.items s (items ∙ items_old) more);
+          timed = λ from is. timed_still from old.recorder.trace.steps.items new.recorder.trace.steps.items (moment old.recorder.disk) (moment new.recorder.disk) (items ∙ items_old) not_before is;
         };
         under = elim (is_row row) [
           | inl none ↦ inr (record { same = quiet none ∙ under_old; unbegun = λ alive died some. absurd (row_there found row plan.row_is some none) })
@@ -245,6 +268,8 @@ module _ {D : Type 0} (honest : D → Type 0) (moment : D → ℕ) (seen : D →
             later = omega (arith, exact);
             no_more = omega (arith, exact);
             each = λ s more. (ap (λ (x : Step). x.moment) (last_is old.recorder.trace.steps.items new.recorder.trace.steps.items s (stamped planned.made.step (moment new.recorder.disk)) more grown), exact);
+            timed = λ from is. subst (λ (l : List Step). AreTimed from l (moment new.recorder.disk)) (sym grown)
+                (timed_more from old.recorder.trace.steps.items (stamped planned.made.step (moment new.recorder.disk)) (moment old.recorder.disk) is (omega (arith, exact)));
           };
           under = inr (record { same = under ∙ under_old; unbegun = λ alive dead some. let no : Some Disk ≡ None = sym dead ∙ lives in cc no });
           quiet = changes_quiet looks quietly;
@@ -254,7 +279,7 @@ module _ {D : Type 0} (honest : D → Type 0) (moment : D → ℕ) (seen : D →
 pub spare_taken : {D : Type 0} (honest : D → Type 0) (moment : D → ℕ) (seen : D → ℕ → List ℕ) (past : D → ℕ → ℕ → Doubt) (who : Who) (now : ℕ) (ask : Ask) (old new : Desk D) (spare : Option Spare)
     → IsCalled honest moment seen past who now ask (record old { spare = spare }) new → IsCalled honest moment seen past who now ask old new
 spare_taken honest moment seen past who now ask old new spare is = record {
-  counted = record { later = is.counted.later; no_more = is.counted.no_more; each = is.counted.each };
+  counted = record { later = is.counted.later; no_more = is.counted.no_more; each = is.counted.each; timed = is.counted.timed };
   under = elim is.under [
     | inl was ↦ inl (record { has_record = was.has_record; dead = was.dead; begun = was.begun; under = was.under })
     | inr was ↦ inr (record { same = was.same; unbegun = was.unbegun })

@@ -38,13 +38,19 @@ put_calls (Some r) fresh freed = entry_calls fresh freed
 abbrev pub calls_by : DeskTable → ℕ → Ask → ℕ
 calls_by t now ask = told_calls (told_of t now (deed_of t ask)) + put_calls (record_of t now (deed_of t ask)) (fresh_by t ask) (freed_by t now ask)
 
+-- the steps ended at counts of calls of which none is less than the one before it, the first not less than this and the last not more than that
+abbrev pub AreTimed : ℕ → List Step → ℕ → Type 0
+AreTimed from [] to = from ≤ to
+AreTimed from (s ∷ steps) to = (from ≤ s.moment) × AreTimed s.moment steps to
+
 -- The count of calls does not fall, and where a step came to the trace, the count at its end is the step's moment: the one before, and those
--- that such an ask makes.
+-- that such an ask makes. So the moments of a trace never fall.
 pub record IsCounted {D : Type 0} (moment : D → ℕ) (now : ℕ) (ask : Ask) (old new : Desk D) : Type 0 where
   pub later : moment old.recorder.disk ≤ moment new.recorder.disk
   pub no_more : moment new.recorder.disk ≤ moment old.recorder.disk + calls_by old.table now ask
   pub each : (s : Step) → new.recorder.trace.steps.items ≡ old.recorder.trace.steps.items ++ s ∷ []
       → (s.moment ≡ moment new.recorder.disk) × (moment new.recorder.disk ≡ moment old.recorder.disk + calls_by old.table now ask)
+  pub timed : (from : ℕ) → AreTimed from old.recorder.trace.steps.items (moment old.recorder.disk) → AreTimed from new.recorder.trace.steps.items (moment new.recorder.disk)
 
 module _ {D : Type 0} (honest : D → Type 0) (moment : D → ℕ) (seen : D → ℕ → List ℕ) (past : D → ℕ → ℕ → Doubt) (who : Who) (now : ℕ) (ask : Ask) (old new : Desk D) where
   -- The disk failed in this call once the writing of the step's record had begun: that is the step under way, and its new body is in its file.

@@ -85,7 +85,7 @@ pub struct Desk<D> {
 impl<D: Disk> Desk<D> {
     ghost use Rattle.dav_desk.specs.Ended.{IsAsked};
     ghost use Rattle.dav_recorder.specs.Files.{ChangesOnly};
-    ghost use Rattle.dav_desk.specs.Called.{IsCalled};
+    ghost use Rattle.dav_desk.specs.Called.{AreTimed, IsCalled};
     ghost use Rattle.dav_desk.specs.Changed.{ChangesAsked, IsPut};
     ghost use Rattle.dav_desk.specs.Room.{IsHeldFor};
     ghost use Rattle.dav_desk.specs.Working.{IsReadied, IsWorking, IsStopped, AreGiven, HasBytes, HasSum};
@@ -109,7 +109,7 @@ impl<D: Disk> Desk<D> {
         ensures readied { IfOk result (λ desk. IsReadied D.honest D.moment D.seen D.past desk) }
         ensures changes { MatchResult result (λ desk. D.honest desk.recorder.disk → ChangesOnly D.moment D.seen D.past (λ f. f ≡ 0) disk desk.recorder.disk) (λ both. D.honest both.0 → ChangesOnly D.moment D.seen D.past (λ f. f ≡ 0) disk both.0) }
         ensures keeps { MatchResult result (λ desk. D.honest desk.recorder.disk → D.honest disk) (λ both. D.honest both.0 → D.honest disk) }
-        ensures moments { MatchResult result (λ desk. D.moment disk ≤ D.moment desk.recorder.disk) (λ both. D.moment disk ≤ D.moment both.0) }
+        ensures moments { MatchResult result (λ desk. AreTimed (D.moment disk) desk.recorder.trace.steps.items (D.moment desk.recorder.disk)) (λ both. D.moment disk ≤ D.moment both.0) }
         ensures faults { MatchResult result (λ desk. D.faults disk ≤ D.faults desk.recorder.disk) (λ both. D.faults disk ≤ D.faults both.0) }
     {
         match Recorder::start(alloc, disk, url) {
