@@ -1,7 +1,6 @@
 -- The device calls of a step, and which one is under way, at each of its exits.
-use Rattle.std.proofs.Common.{◌≡◌, ◌≢◌, ◌⊎◌, inl, inr, ℕ, ◌+◌, ◌≤◌, List, [], ◌∷◌, ◌++◌, length, Bool, Option, Some, None, Result, Ok, Err, OnOk, refl, sym, ◌∙◌, ap, subst, arith, length-append}
+use Rattle.std.proofs.Common.{◌≡◌, ◌≢◌, ◌⊎◌, inl, inr, ℕ, ◌+◌, ◌≤◌, List, [], ◌∷◌, ◌++◌, length, Bool, Option, Some, None, Result, refl, sym, ◌∙◌, ap, subst, arith, length-append}
 use Rattle.dav_disk.specs.Disk.{Doubt}
-use Rattle.dav_store.specs.Counts.{IsCountedAs}
 use Rattle.dav_store.specs.declared.body_id.BodyId.{BodyId}
 use Rattle.dav_index.specs.declared.record.Record.{Record}
 use Rattle.dav_deeds.specs.Answers.{wanted}
@@ -20,19 +19,21 @@ use Rattle.dav_deeds.specs.declared.fault.DeskFault.{DeskFault}
 use Rattle.dav_deeds.specs.declared.fault.DeskFault.TheVariants.{Disk}
 use Rattle.dav_deeds.specs.declared.plan.Planned.{Planned}
 use Rattle.dav_deeds.specs.declared.spare.Spare.{Spare}
-use Rattle.dav_recorder.specs.Calls.{body_calls, entry_calls, freeing_calls, IsUnbegun, IsBegun, IsUnder}
-use Rattle.dav_recorder.specs.Files.{ChangesOnly, IsStored}
+use Rattle.std.specs.List.{Contains}
+use Rattle.dav_recorder.specs.Opening.{IsUndamaged}
+use Rattle.dav_recorder.specs.Calls.{entry_calls, IsUnder}
+use Rattle.dav_recorder.specs.Files.{ChangesOnly}
 use Rattle.dav_recorder.specs.Stands.{IsFile}
 use Rattle.dav_recorder.specs.declared.recorder.Recorder.{Recorder}
 use Rattle.dav_recorder.proofs.LiveLemmas.{stamped}
-use Rattle.dav_recorder.proofs.Filing.{changes_behind}
-use Rattle.dav_desk.specs.Called.{one_call, told_calls, put_calls, calls_by, IsCounted, WasBegun, WasUnbegun, IsCalled}
+use Rattle.dav_recorder.proofs.Filing.{changes_none, changes_wider, changes_behind}
+use Rattle.dav_desk.specs.Called.{AreTimed, one_call, told_calls, put_calls, calls_by, IsCalled}
 use Rattle.dav_desk.specs.Calls.{row_calls}
 use Rattle.dav_desk.specs.Changed.{fresh_by, freed_by}
 use Rattle.dav_desk.specs.Entry.{file_in}
 use Rattle.dav_deeds.specs.declared.answer.Answer.{Answer}
 use Rattle.dav_desk.specs.Ended.{LivesOn, IsUncalled, HasCause, IsAsked}
-use Rattle.dav_desk.specs.Verdict.{Verdict, Went, Stopped, Starved, step_of}
+use Rattle.dav_desk.specs.Verdict.{Verdict, Went, Stopped, Starved}
 use Rattle.dav_desk.specs.declared.desk.Desk.{Desk}
 use Rattle.dav_desk.proofs.Asking.{stamped_is}
 use Rattle.dav_desk.proofs.Entering.{text_wide}
@@ -76,23 +77,48 @@ last_is xs ys x y one two = same_last xs x y (sym one ∙ two)
     same_last [] x y is = cc is
     same_last (z ∷ xs) x y is = same_last xs x y (cc is)
 
+-- moments that were in order are so later, and with one more
+pub timed_later : (from : ℕ) (steps : List Step) (a b : ℕ) → a ≤ b → AreTimed from steps a → AreTimed from steps b
+timed_later from [] a b le is = omega (arith, le, is)
+timed_later from (s ∷ steps) a b le is = (is.0, timed_later s.moment steps a b le is.1)
+
+timed_more : (from : ℕ) (steps : List Step) (s : Step) (a : ℕ) → AreTimed from steps a → a ≤ s.moment → AreTimed from (steps ++ s ∷ []) s.moment
+timed_more from [] s a is le = (omega (arith, is, le), omega arith)
+timed_more from (x ∷ steps) s a is le = (is.0, timed_more x.moment steps s a is.1 le)
+
+timed_still : (from : ℕ) (steps steps_now : List Step) (a b : ℕ) → steps_now ≡ steps → a ≤ b → AreTimed from steps a → AreTimed from steps_now b
+timed_still from steps steps_now a b same le is = subst (λ (l : List Step). AreTimed from l b) (sym same) (timed_later from steps a b le is)
+
 module _ {D : Type 0} (honest : D → Type 0) (moment : D → ℕ) (seen : D → ℕ → List ℕ) (past : D → ℕ → ℕ → Doubt) (who : Who) (now : ℕ) (ask : Ask) (old new : Desk D) where
   -- no call was made
   pub uncalled : new.recorder.disk ≡ old.recorder.disk → new.recorder.trace.steps.items ≡ old.recorder.trace.steps.items → new.recorder.under ≡ old.recorder.under
       → (old.recorder.dead ≡ None → new.recorder.dead ≡ None) → IsCalled honest moment seen past who now ask old new
   uncalled disk items under lives = record {
-    counted = record { later = omega (arith, ap moment disk); no_more = omega (arith, ap moment disk); each = λ s more. absurd (longer old.recorder.trace.steps.items new.recorder.trace.steps.items s items more) };
+    counted = record {
+      later = omega (arith, ap moment disk);
+      no_more = omega (arith, ap moment disk);
+      each = λ s more. absurd (longer old.recorder.trace.steps.items new.recorder.trace.steps.items s items more);
+      timed = λ from is. timed_still from old.recorder.trace.steps.items new.recorder.trace.steps.items (moment old.recorder.disk) (moment new.recorder.disk) items (omega (arith, ap moment disk)) is;
+    };
     under = inr (record { same = under; unbegun = λ alive dead some. let no : Some Disk ≡ None = sym dead ∙ lives alive in cc no });
+    quiet = λ h none. changes_none moment seen past (Contains (freed_by old.table now ask)) old.recorder.disk new.recorder.disk disk;
   }
 
   -- the bytes of a body that was to be told were not to be had
   pub unread : (body : BodyId) → wanted (told_of old.table now (deed_of old.table ask)) ≡ Some body → moment old.recorder.disk ≤ moment new.recorder.disk → moment new.recorder.disk ≤ moment old.recorder.disk + 1
-      → new.recorder.trace.steps.items ≡ old.recorder.trace.steps.items → new.recorder.under ≡ old.recorder.under → IsCalled honest moment seen past who now ask old new
-  unread body told later most items under =
+      → new.recorder.trace.steps.items ≡ old.recorder.trace.steps.items → new.recorder.under ≡ old.recorder.under → (honest new.recorder.disk → ChangesOnly moment seen past (λ _. ⊥) old.recorder.disk new.recorder.disk)
+      → IsCalled honest moment seen past who now ask old new
+  unread body told later most items under looks =
       let one : told_calls (told_of old.table now (deed_of old.table ask)) ≡ 1 = ap one_call told in
       record {
-        counted = record { later = later; no_more = omega (arith, most, one); each = λ s more. absurd (longer old.recorder.trace.steps.items new.recorder.trace.steps.items s items more) };
+        counted = record {
+          later = later;
+          no_more = omega (arith, most, one);
+          each = λ s more. absurd (longer old.recorder.trace.steps.items new.recorder.trace.steps.items s items more);
+          timed = λ from is. timed_still from old.recorder.trace.steps.items new.recorder.trace.steps.items (moment old.recorder.disk) (moment new.recorder.disk) items later is;
+        };
         under = inr (record { same = under; unbegun = λ alive dead some. absurd (some (told_quiet old.table now (deed_of old.table ask) body told)) });
+        quiet = λ h none. changes_wider moment seen past (λ _. ⊥) (Contains (freed_by old.table now ask)) old.recorder.disk new.recorder.disk (λ f never. absurd never) (looks h);
       }
 
   -- the step was to be put on the disk, once there was room for it in r, and the bytes that it tells were read in q
@@ -132,6 +158,13 @@ module _ {D : Type 0} (honest : D → Type 0) (moment : D → ℕ) (seen : D →
         none_told_calls planned.made.step.told (λ body is. row_not_there found row plan.row_is some (told_quiet old.table now (deed_of old.table ask) body (ap wanted (sym told_is) ∙ is))) in
         omega (arith, read, none, ap moment reserved)
 
+    changes_quiet : (honest new.recorder.disk → ChangesOnly moment seen past (λ _. ⊥) r.disk q.disk) → (honest new.recorder.disk → row ≡ [] → ChangesOnly moment seen past (Contains freed) q.disk new.recorder.disk)
+        → honest new.recorder.disk → found ≡ None → ChangesOnly moment seen past (Contains (freed_by old.table now ask)) old.recorder.disk new.recorder.disk
+    changes_quiet looks quietly h none =
+        subst (λ (d : D). ChangesOnly moment seen past (Contains (freed_by old.table now ask)) d new.recorder.disk) reserved
+        (subst (λ (l : List ℕ). ChangesOnly moment seen past (Contains l) r.disk new.recorder.disk) all_freed
+        (changes_behind moment seen past (Contains freed) r.disk q.disk new.recorder.disk (looks h) (quietly h (plan.row_is ∙ ap (λ (o : Option Record). row_of o) none))))
+
     -- it was stopped
     module _ (later : moment q.disk ≤ moment new.recorder.disk) (most : moment new.recorder.disk ≤ moment q.disk + row_calls row (file_in (new_body planned.made.step.deed)) freed) where
       at_most : moment new.recorder.disk ≤ moment old.recorder.disk + calls_by old.table now ask
@@ -141,23 +174,28 @@ module _ {D : Type 0} (honest : D → Type 0) (moment : D → ℕ) (seen : D →
       not_before = omega (arith, later, read, ap moment reserved)
 
       pub failed : new.recorder.dead ≡ Some Disk → new.recorder.trace.steps.items ≡ q.trace.steps.items → (honest new.recorder.disk → ChangesOnly moment seen past (λ _. ⊥) r.disk q.disk)
+          → (honest new.recorder.disk → row ≡ [] → ChangesOnly moment seen past (Contains freed) q.disk new.recorder.disk)
           → (row ≡ [] → new.recorder.under ≡ q.under)
           → (row ≢ [] → IsUnder honest moment seen past (file_in (new_body planned.made.step.deed)) bytes freed planned.made.step q.disk new.recorder.disk q.under new.recorder.under)
           → IsCalled honest moment seen past who now ask old new
-      failed dead items looks quiet begun = record {
+      failed dead items looks quietly quiet begun = record {
         counted = record {
           later = not_before;
           no_more = at_most;
           each = λ s more. absurd (longer old.recorder.trace.steps.items new.recorder.trace.steps.items s (items ∙ items_old) more);
+          timed = λ from is. timed_still from old.recorder.trace.steps.items new.recorder.trace.steps.items (moment old.recorder.disk) (moment new.recorder.disk) (items ∙ items_old) not_before is;
         };
         under = elim (is_row row) [
           | inl none ↦ inr (record { same = quiet none ∙ under_old; unbegun = λ alive died some. absurd (row_there found row plan.row_is some none) })
           | inr some ↦ elim (asked_under (begun some)) [
-            | inl un ↦ inr (record { same = un.1 ∙ under_old; unbegun = λ alive died there. record {
-              has_body = un.0.has_body;
-              early = let early = un.0.early in let none = none_told some in omega (arith, early, none);
-              changes = λ h. subst (λ (d : D). ChangesOnly moment seen past (IsFile (fresh_by old.table ask)) d new.recorder.disk) reserved (changes_behind moment seen past (IsFile (fresh_by old.table ask)) r.disk q.disk new.recorder.disk (looks h) (un.0.changes h));
-            } })
+            | inl un ↦ inr (record {
+              same = un.1 ∙ under_old;
+              unbegun = λ alive died there. record {
+                has_body = un.0.has_body;
+                early = let early = un.0.early in let none = none_told some in omega (arith, early, none);
+                changes = λ h. subst (λ (d : D). ChangesOnly moment seen past (IsFile (fresh_by old.table ask)) d new.recorder.disk) reserved (changes_behind moment seen past (IsFile (fresh_by old.table ask)) r.disk q.disk new.recorder.disk (looks h) (un.0.changes h));
+              };
+            })
             | inr be ↦ inl (record {
               has_record = row_not_there found row plan.row_is some;
               dead = dead;
@@ -166,6 +204,7 @@ module _ {D : Type 0} (honest : D → Type 0) (moment : D → ℕ) (seen : D →
             })
           ]
         ];
+        quiet = changes_quiet looks quietly;
       }
         where
           asked_under : IsUnder honest moment seen past (file_in (new_body planned.made.step.deed)) bytes freed planned.made.step q.disk new.recorder.disk q.under new.recorder.under
@@ -178,8 +217,9 @@ module _ {D : Type 0} (honest : D → Type 0) (moment : D → ℕ) (seen : D →
     -- it stands in the trace
     pub went : moment new.recorder.disk ≡ moment q.disk + row_calls row (file_in (new_body planned.made.step.deed)) freed
         → new.recorder.trace.steps.items ≡ q.trace.steps.items ++ stamped planned.made.step (moment new.recorder.disk) ∷ [] → new.recorder.under ≡ q.under → new.recorder.dead ≡ None
+        → (honest new.recorder.disk → ChangesOnly moment seen past (λ _. ⊥) r.disk q.disk) → (honest new.recorder.disk → row ≡ [] → ChangesOnly moment seen past (Contains freed) q.disk new.recorder.disk)
         → IsCalled honest moment seen past who now ask old new
-    went counted items under lives =
+    went counted items under lives looks quietly =
         let exact : moment new.recorder.disk ≡ moment old.recorder.disk + calls_by old.table now ask = omega (arith, counted, read, calls_are, ap moment reserved) in
         let grown : new.recorder.trace.steps.items ≡ old.recorder.trace.steps.items ++ stamped planned.made.step (moment new.recorder.disk) ∷ [] =
         items ∙ ap (λ (l : List Step). l ++ stamped planned.made.step (moment new.recorder.disk) ∷ []) items_old in
@@ -188,19 +228,23 @@ module _ {D : Type 0} (honest : D → Type 0) (moment : D → ℕ) (seen : D →
             later = omega (arith, exact);
             no_more = omega (arith, exact);
             each = λ s more. (ap (λ (x : Step). x.moment) (last_is old.recorder.trace.steps.items new.recorder.trace.steps.items s (stamped planned.made.step (moment new.recorder.disk)) more grown), exact);
+            timed = λ from is. subst (λ (l : List Step). AreTimed from l (moment new.recorder.disk)) (sym grown)
+                (timed_more from old.recorder.trace.steps.items (stamped planned.made.step (moment new.recorder.disk)) (moment old.recorder.disk) is (omega (arith, exact)));
           };
           under = inr (record { same = under ∙ under_old; unbegun = λ alive dead some. let no : Some Disk ≡ None = sym dead ∙ lives in cc no });
+          quiet = changes_quiet looks quietly;
         }
 
 -- the same of a desk whose memory for the end of its job was taken out before
 pub spare_taken : {D : Type 0} (honest : D → Type 0) (moment : D → ℕ) (seen : D → ℕ → List ℕ) (past : D → ℕ → ℕ → Doubt) (who : Who) (now : ℕ) (ask : Ask) (old new : Desk D) (spare : Option Spare)
     → IsCalled honest moment seen past who now ask (record old { spare = spare }) new → IsCalled honest moment seen past who now ask old new
 spare_taken honest moment seen past who now ask old new spare is = record {
-  counted = record { later = is.counted.later; no_more = is.counted.no_more; each = is.counted.each };
+  counted = record { later = is.counted.later; no_more = is.counted.no_more; each = is.counted.each; timed = is.counted.timed };
   under = elim is.under [
     | inl was ↦ inl (record { has_record = was.has_record; dead = was.dead; begun = was.begun; under = was.under })
     | inr was ↦ inr (record { same = was.same; unbegun = was.unbegun })
   ];
+  quiet = is.quiet;
 }
 
 -- it was this who and this time
@@ -230,3 +274,11 @@ asked_spare {D} honest moment seen faults who who_now now then ask old new spare
       | inr died ↦ inr (record { alive = died.alive; dead = died.dead; ends = died.ends; cause = died.cause; under = died.under })
     ]
     caused Starved cause = uncalled_too cause
+
+-- a desk that lives didn't die of a damaged body
+pub alive_undamaged : (dead : Option DeskFault) (fault : DeskFault) → dead ≡ None → dead ≡ Some fault → IsUndamaged fault
+alive_undamaged dead fault alive died = let no : Some fault ≡ None = sym died ∙ alive in cc no
+
+-- nor one that died of another fault
+pub died_undamaged : (dead : Option DeskFault) (e fault : DeskFault) → dead ≡ Some e → IsUndamaged e → dead ≡ Some fault → IsUndamaged fault
+died_undamaged dead e fault died undamaged is = let same : Some e ≡ Some fault = sym died ∙ is in subst IsUndamaged (cc same) undamaged

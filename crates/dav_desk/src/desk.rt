@@ -9,11 +9,12 @@ ghost use Rattle.dav_deeds.specs.DeskTable.{DeskTable, started};
 ghost use Rattle.dav_deeds.specs.Effects.{after, told_of};
 ghost use Rattle.dav_deeds.specs.Legal.{IsAsk, deed_of};
 ghost use Rattle.dav_deeds.specs.Spare.{HasSpare, kept_spare as kept_spare_lem, ends_job};
+ghost use Rattle.dav_deeds.specs.declared.fault.DeskFault.{DeskFault as TheFault};
 ghost use Rattle.dav_deeds.specs.declared.fault.DeskFault.TheVariants.{Memory as MemoryFault};
 ghost use Rattle.dav_deeds.specs.Sound.{IsSound};
 ghost use Rattle.dav_recorder.specs.Stands.{EachImage};
 ghost use Rattle.dav_recorder.specs.Recovers.{Recovers, AllRecover};
-ghost use Rattle.dav_recorder.specs.Opening.{IsIndexOf, IsStartFault};
+ghost use Rattle.dav_recorder.specs.Opening.{IsIndexOf, IsStartFault, IsUndamaged};
 ghost use Rattle.dav_deeds.specs.Change.{IsPlan};
 ghost use Rattle.dav_desk.specs.Verdict.{with_bytes as with_bytes_lem};
 ghost use Rattle.dav_desk.specs.Ends.{IsEnd};
@@ -89,7 +90,7 @@ pub struct Desk<D> {
 impl<D: Disk> Desk<D> {
     ghost use Rattle.dav_desk.specs.Ended.{IsAsked};
     ghost use Rattle.dav_recorder.specs.Files.{ChangesOnly};
-    ghost use Rattle.dav_desk.specs.Called.{IsCalled};
+    ghost use Rattle.dav_desk.specs.Called.{AreTimed, IsCalled};
     ghost use Rattle.dav_desk.specs.Changed.{ChangesAsked, IsPut};
     ghost use Rattle.dav_desk.specs.Room.{IsHeldFor};
     ghost use Rattle.dav_desk.specs.Working.{IsReadied, IsWorking, IsStopped, AreGiven, HasBytes, HasSum};
@@ -113,7 +114,7 @@ impl<D: Disk> Desk<D> {
         ensures readied { IfOk result (λ desk. IsReadied D.honest D.moment D.seen D.past desk) }
         ensures changes { MatchResult result (λ desk. D.honest desk.recorder.disk → ChangesOnly D.moment D.seen D.past (λ f. f ≡ 0) disk desk.recorder.disk) (λ both. D.honest both.0 → ChangesOnly D.moment D.seen D.past (λ f. f ≡ 0) disk both.0) }
         ensures keeps { MatchResult result (λ desk. D.honest desk.recorder.disk → D.honest disk) (λ both. D.honest both.0 → D.honest disk) }
-        ensures moments { MatchResult result (λ desk. D.moment disk ≤ D.moment desk.recorder.disk) (λ both. D.moment disk ≤ D.moment both.0) }
+        ensures moments { MatchResult result (λ desk. AreTimed (D.moment disk) desk.recorder.trace.steps.items (D.moment desk.recorder.disk)) (λ both. D.moment disk ≤ D.moment both.0) }
         ensures faults { MatchResult result (λ desk. D.faults disk ≤ D.faults desk.recorder.disk) (λ both. D.faults disk ≤ D.faults both.0) }
     {
         match Recorder::start(alloc, disk, url) {
@@ -150,6 +151,8 @@ impl<D: Disk> Desk<D> {
         ensures changes { D.honest self.new.recorder.disk → ChangesAsked D.moment D.seen D.past now ask.now self.old self.new }
         ensures put { D.honest self.new.recorder.disk → OnOk result (IsPut D.moment D.seen D.past now ask.now self.old self.new) }
         ensures ends { ends_job self.old.table.job ask.now ≡ true → IfErr result (λ e. e ≢ MemoryFault) }
+        ensures undamaged { D.honest self.new.recorder.disk → (url : List ℕ) (opening : DeskTable) (start : ℕ) (given : ℕ → List ℕ) → IsWorking D.moment D.seen D.past url opening start given self.old
+            → (fault : TheFault) → self.new.recorder.dead ≡ Some fault → IsUndamaged fault }
         ensures called { IsCalled D.honest D.moment D.seen D.past who now ask.now self.old self.new }
         ensures keeps { D.honest self.new.recorder.disk → D.honest self.old.recorder.disk }
         ensures faults { D.faults self.old.recorder.disk ≤ D.faults self.new.recorder.disk }
@@ -201,6 +204,8 @@ impl<D: Disk> Desk<D> {
         ensures changes { D.honest self.new.recorder.disk → ChangesAsked D.moment D.seen D.past planned.made.step.now ask.now self.old self.new }
         ensures put { D.honest self.new.recorder.disk → OnOk result (IsPut D.moment D.seen D.past planned.made.step.now ask.now self.old self.new) }
         ensures ends { kind_told planned.made.step.told ≡ Ends → IfErr result (λ e. e ≢ MemoryFault) }
+        ensures undamaged { D.honest self.new.recorder.disk → (url : List ℕ) (opening : DeskTable) (start : ℕ) (given : ℕ → List ℕ) → IsWorking D.moment D.seen D.past url opening start given self.old
+            → (fault : TheFault) → self.new.recorder.dead ≡ Some fault → IsUndamaged fault }
         ensures called { IsCalled D.honest D.moment D.seen D.past planned.made.step.who planned.made.step.now ask.now self.old self.new }
         ensures keeps { D.honest self.new.recorder.disk → D.honest self.old.recorder.disk }
         ensures faults { D.faults self.old.recorder.disk ≤ D.faults self.new.recorder.disk }

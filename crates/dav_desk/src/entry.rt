@@ -12,6 +12,7 @@ ghost use Rattle.dav_deeds.specs.Legal.{new_body, table_after};
 ghost use Rattle.dav_deeds.specs.declared.fault.DeskFault.TheVariants.{Disk as DiskFault, Memory as MemoryFault};
 ghost use Rattle.dav_recorder.specs.Calls.{IsUnder};
 ghost use Rattle.dav_recorder.specs.Files.{ChangesOnly, AreEmpty, IsStored};
+ghost use Rattle.dav_recorder.specs.Opening.{IsUndamaged};
 ghost use Rattle.dav_recorder.specs.Planned.{kept_table};
 ghost use Rattle.dav_recorder.specs.Stands.{IsWritten};
 ghost use Rattle.dav_recorder.specs.Survives.{IsLive, IsLeft};
@@ -47,6 +48,8 @@ pub(crate) fn told_bytes<D: Disk>(
     ensures live { D.honest recorder.new.disk → (url : List ℕ) (opening : DeskTable) (start : ℕ) (given : ℕ → List ℕ) → IsLive D.moment D.seen D.past url opening start given recorder.old
         → IsLive D.moment D.seen D.past url opening start given recorder.new }
     ensures sum { IfOk result (λ blob. (body : BodyId) → wanted told.now ≡ Some body → sha256 blob ≡ body.sum) }
+    ensures undamaged { D.honest recorder.new.disk → IfErr result (λ e. (body : BodyId) → wanted told.now ≡ Some body → (url : List ℕ) (opening : DeskTable) (start : ℕ) (given : ℕ → List ℕ)
+        → IsLive D.moment D.seen D.past url opening start given recorder.old → Contains (bodies_of (kept_table (table_after opening recorder.old.trace.steps.items))) body → IsUndamaged e) }
     ensures fault { IfErr result (λ e. IsMissing (D.honest recorder.new.disk) (D.seen recorder.old.disk) (D.seen recorder.new.disk) (D.faults recorder.old.disk) (D.faults recorder.new.disk) told.now e) }
     ensures starved { IfErr result (λ e. e ≡ MemoryFault → (recorder.new.disk ≡ recorder.old.disk) × (recorder.new.dead ≡ recorder.old.dead)) }
     ensures stopped { IfErr result (λ e. e ≢ MemoryFault → recorder.new.dead ≡ Some e) }
@@ -100,6 +103,7 @@ pub(crate) fn enter<D: Disk>(
     ensures stored { D.honest recorder.new.disk → OnOk result (row.now ≢ [] → IsStored (file_in (new_body step.deed)) bytes.now freed.now (D.seen recorder.new.disk) (D.past recorder.new.disk (D.moment recorder.new.disk))) }
     ensures emptied { D.honest recorder.new.disk → OnOk result (AreEmpty freed.now (D.seen recorder.new.disk) (D.past recorder.new.disk (D.moment recorder.new.disk))) }
     ensures counts { IsCountedAs (row_calls row.now (file_in (new_body step.deed)) freed.now) (D.moment recorder.old.disk) (D.moment recorder.new.disk) result }
+    ensures quietly { D.honest recorder.new.disk → row.now ≡ [] → ChangesOnly D.moment D.seen D.past (Contains freed.now) recorder.old.disk recorder.new.disk }
     ensures quiet { OnErr result (row.now ≡ [] → recorder.new.under ≡ recorder.old.under) }
     ensures under { OnErr result (row.now ≢ [] → IsUnder D.honest D.moment D.seen D.past (file_in (new_body step.deed)) bytes.now freed.now step recorder.old.disk recorder.new.disk recorder.old.under recorder.new.under) }
     ensures capacity { vec_capacity recorder.old.trace.steps ≤ vec_capacity recorder.new.trace.steps }

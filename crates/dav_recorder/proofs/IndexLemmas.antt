@@ -1,7 +1,6 @@
 -- An index that spells given records, whatever a disk shows.
-use Rattle.std.proofs.Common.{◌≡◌, ◌≢◌, ℕ, ◌+◌, ◌<◌, List, [], ◌∷◌, ◌++◌, length, map, inr, refl, sym, ◌∙◌, ap, subst, arith, append-nil, append_assoc}
-use Rattle.dav_store.specs.Rows.{IsPayload, row_text, Rows, Spells}
-use Rattle.dav_store.specs.Start.{head_of}
+use Rattle.std.proofs.Common.{◌≡◌, ◌≢◌, ℕ, ◌<◌, List, [], ◌∷◌, ◌++◌, length, map, inr, refl, sym, subst, arith}
+use Rattle.dav_store.specs.Rows.{row_text, Rows}
 use Rattle.dav_index.specs.Records.{text_of, IsRecord}
 use Rattle.dav_index.specs.Bounds.{IsWithin}
 use Rattle.dav_index.specs.Tables.{replay, fresh_table}
@@ -43,10 +42,16 @@ spelled_records before (r ∷ all) after is =
 -- there are bytes that spell an index of this URL and of this table
 pub replayed_index : (url : List ℕ) (table : Table) → length url < 65505 → HasReplayed table → (file : List ℕ) × IsIndexOf url table file
 replayed_index url table short is =
-    let front : List ℕ = spelled (rows_of url is.0) in
-    (front ++ 0 ∷ [], inr (is.0, is.1, record {
-      front = front;
-      rest = [];
-      open_rows = (1, spelled (map text_of is.0), open_gate, (omega arith, omega (arith, short)), refl, spelled_records fresh_table is.0 table is.1);
-      split = refl;
-    }))
+    let front : List ℕ = spelled (rows_of url is.0) in (
+      front ++ 0 ∷ [],
+      inr (
+        is.0,
+        is.1,
+        record {
+          front = front;
+          rest = [];
+          open_rows = (1, spelled (map text_of is.0), open_gate, (omega arith, omega (arith, short)), refl, spelled_records fresh_table is.0 table is.1);
+          split = refl;
+        },
+      ),
+    )

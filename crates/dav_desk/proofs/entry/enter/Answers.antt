@@ -102,3 +102,15 @@ returns-in-Err-enter-clause-under g c some =
     let old = c.args.recorder.now in
     let new = c.enter.new.self in
     subst (λ (o : Option ℕ). IsUnder g.D.Disk.honest g.D.Disk.moment g.D.Disk.seen g.D.Disk.past o c.args.bytes.now c.args.freed.now c.args.step old.disk new.disk old.under new.under) c.fresh_of-fresh.ensures c.in-Err-enter.ensures.under
+
+pub returns-in-Ok-clause-quietly : goal.returns-in-Ok-clause-quietly
+returns-in-Ok-clause-quietly g c h none = c.enter_quiet.ensures.changes h
+
+pub returns-in-Err-clause-quietly : goal.returns-in-Err-clause-quietly
+returns-in-Err-clause-quietly g c h none = c.enter_quiet.ensures.changes h
+
+pub returns-in-Ok-enter-clause-quietly : goal.returns-in-Ok-enter-clause-quietly
+returns-in-Ok-enter-clause-quietly g c h none = absurd (row_full c.args.row.now c.is_empty.result c.is_empty.ensures c.if-is_empty.false none)
+
+pub returns-in-Err-enter-clause-quietly : goal.returns-in-Err-enter-clause-quietly
+returns-in-Err-enter-clause-quietly g c h none = absurd (row_full c.args.row.now c.is_empty.result c.is_empty.ensures c.if-is_empty.false none)

@@ -1,7 +1,6 @@
 use Rattle.std.proofs.Common.{ℕ, ◌+◌, List, [], ◌∷◌, ◌++◌, sym, ◌∙◌, ap, subst, arith}
 use Rattle.dav_disk.proofs.Stretch.{touches_join}
 use Rattle.dav_recorder.specs.Opening.{IsBadRow}
-use Rattle.dav_index.specs.declared.table.Table.{Table}
 use Rattle.dav_recorder.proofs.IndexLemmas.{HasReplayed, replayed_more}
 use Rattle.dav_recorder.proofs.reading.read_table.Goals as goal
 

@@ -1,4 +1,4 @@
-use Rattle.std.proofs.Common.{rules, ◌≡◌, ◌≢◌, Result, ℕ, ◌<◌, arith, List, length, Option, Some, None, sym, ◌∙◌, ap, subst}
+use Rattle.std.proofs.Common.{rules, ◌≡◌, ◌≢◌, inl, inr, Result, ℕ, ◌<◌, arith, List, length, Option, Some, None, sym, ◌∙◌, ap, subst}
 use Rattle.std.specs.Prelude.{IfErr, vec_capacity}
 use Rattle.std.proofs.lemmas.Bool.{false≢true}
 use Rattle.std.proofs.lemmas.Result.{err_from_is_err_and}
@@ -31,7 +31,9 @@ use Rattle.dav_recorder.specs.Stands.{IsWritten}
 use Rattle.dav_desk.specs.Changed.{fresh_by, freed_by}
 use Rattle.dav_desk.proofs.Changing.{changes_asked, changes_looked, stored_asked, empty_asked, on_ok_any}
 use Rattle.dav_desk.specs.Called.{one_call, told_calls}
-use Rattle.dav_desk.proofs.Calling.{uncalled, unread, failed, went}
+use Rattle.dav_desk.proofs.Calling.{uncalled, unread, failed, went, alive_undamaged, died_undamaged}
+use Rattle.dav_desk.proofs.Asking.{end_of}
+use Rattle.dav_recorder.specs.Files.{ChangesOnly}
 use Rattle.dav_desk.proofs.desk.Desk.carry_out.Goals as goal
 
 pub returns-in_err-reserve-clause-asked : goal.returns-in_err-reserve-clause-asked
@@ -364,6 +366,7 @@ returns-in-Err-clause-called g c =
     unread g.D.Disk.honest g.D.Disk.moment g.D.Disk.seen g.D.Disk.past c.args.planned.made.step.who c.args.planned.made.step.now c.args.ask.now c.args.self.now (record c.args.self.now { recorder = c.told_bytes.new.recorder })
     missing.body (ap wanted (sym (ap (λ (s : Step). s.told) c.requires.plan.step)) ∙ missing.is_wanted) (omega (arith, same, c.in-Err.ensures.counts.later)) (omega (arith, same, one, c.in-Err.ensures.counts.no_more))
     (ap (λ (x : Trace). x.steps.items) c.told_bytes.ensures.trace.0 ∙ c.reserve.ensures.items) (c.told_bytes.ensures.trace.1 ∙ ap (λ (x : Recorder g.row.D.Denot). x.under) c.reserve.ensures.rest)
+    (λ h. subst (λ (d : g.row.D.Denot). ChangesOnly g.D.Disk.moment g.D.Disk.seen g.D.Disk.past (λ _. ⊥) d c.told_bytes.new.recorder.disk) disk (c.told_bytes.ensures.changes h))
 
 pub returns-in-Err-enter-clause-called : goal.returns-in-Err-enter-clause-called
 returns-in-Err-enter-clause-called g c =
@@ -372,7 +375,7 @@ returns-in-Err-enter-clause-called g c =
     (ap (λ (x : Recorder g.row.D.Denot). x.disk) c.reserve.ensures.rest) (ap (λ (x : Recorder g.row.D.Denot). x.under) c.reserve.ensures.rest) c.reserve.ensures.items
     c.in-Ok.ensures.counts.all c.told_bytes.ensures.trace.1 (ap (λ (x : Trace). x.steps.items) c.told_bytes.ensures.trace.0)
     c.bytes.result.now c.as_slice.result.now c.bytes.ensures c.as_slice.ensures.value
-    c.in-Err-enter.ensures.counts.later c.in-Err-enter.ensures.counts.no_more stopped.1 stopped.3 (λ h. c.told_bytes.ensures.changes (c.enter.ensures.keeps h)) c.in-Err-enter.ensures.quiet c.in-Err-enter.ensures.under
+    c.in-Err-enter.ensures.counts.later c.in-Err-enter.ensures.counts.no_more stopped.1 stopped.3 (λ h. c.told_bytes.ensures.changes (c.enter.ensures.keeps h)) c.enter.ensures.quietly c.in-Err-enter.ensures.quiet c.in-Err-enter.ensures.under
 
 pub returns-clause-called : goal.returns-clause-called
 returns-clause-called g c =
@@ -382,3 +385,29 @@ returns-clause-called g c =
     c.in-Ok.ensures.counts.all c.told_bytes.ensures.trace.1 (ap (λ (x : Trace). x.steps.items) c.told_bytes.ensures.trace.0)
     c.bytes.result.now c.as_slice.result.now c.bytes.ensures c.as_slice.ensures.value
     c.in-Ok-enter.ensures.counts.all ended.0 ended.1 (ended.2 ∙ c.in-Ok.ensures.alive ∙ ap (λ (x : Recorder g.row.D.Denot). x.dead) c.reserve.ensures.rest ∙ c.requires.alive)
+    (λ h. c.told_bytes.ensures.changes (c.enter.ensures.keeps h)) c.enter.ensures.quietly
+
+pub returns-in_err-reserve-clause-undamaged : goal.returns-in_err-reserve-clause-undamaged
+returns-in_err-reserve-clause-undamaged g c h url opening start given is fault = alive_undamaged c.reserve.new.self.dead fault (ap (λ (x : Recorder g.row.D.Denot). x.dead) c.reserve.ensures.rest ∙ c.requires.alive)
+
+pub returns-in-Err-clause-undamaged : goal.returns-in-Err-clause-undamaged
+returns-in-Err-clause-undamaged g c h url opening start given is fault =
+    let b : Base g.D.Disk.honest g.D.Disk.moment g.D.Disk.seen g.D.Disk.past c.args.self.now c.args.ask.now c.args.planned c.args.row.now c.reserve.new.self =
+    record { alive = c.requires.alive; sound = c.requires.sound; plan = c.requires.plan; ready = c.requires.ready; held = c.requires.held; rest = c.reserve.ensures.rest; room = c.reserve.ensures.items; more = c.reserve.ensures.capacity } in
+    let k : Read g.D.Disk.honest g.D.Disk.moment g.D.Disk.seen g.D.Disk.past g.D.Disk.faults c.reserve.new.self c.told_bytes.new.recorder =
+    record { trace = c.told_bytes.ensures.trace; more = c.told_bytes.ensures.faults; keeps = c.told_bytes.ensures.keeps; ready = c.told_bytes.ensures.ready; live = c.told_bytes.ensures.live } in
+    let missing = c.in-Err.ensures.fault in
+    let dead = c.told_bytes.new.recorder.dead in
+    elim (end_of (g.D.Disk.honest c.told_bytes.new.recorder.disk) missing.body (g.D.Disk.seen c.reserve.new.self.disk missing.body.file) (g.D.Disk.faults c.reserve.new.self.disk) (g.D.Disk.faults c.told_bytes.new.recorder.disk) c.in-Err.fault missing.cause) [
+      | inl want ↦ alive_undamaged dead fault ((c.in-Err.ensures.starved want).1 ∙ ap (λ (x : Recorder g.row.D.Denot). x.dead) c.reserve.ensures.rest ∙ c.requires.alive)
+      | inr end ↦ died_undamaged dead c.in-Err.fault fault (c.in-Err.ensures.stopped end.1)
+          (c.in-Err.ensures.undamaged h missing.body missing.is_wanted url opening start given (lives g.D.Disk.honest g.D.Disk.moment g.D.Disk.seen g.D.Disk.past g.D.Disk.faults c.args.self.now c.args.ask.now c.args.planned c.args.row.now c.reserve.new.self b url opening start given is)
+          (read_named g.D.Disk.honest g.D.Disk.moment g.D.Disk.seen g.D.Disk.past g.D.Disk.faults c.args.self.now c.args.ask.now c.args.planned c.args.row.now c.reserve.new.self b c.told_bytes.new.recorder k h url opening start given is missing.body missing.is_wanted))
+    ]
+
+pub returns-in-Err-enter-clause-undamaged : goal.returns-in-Err-enter-clause-undamaged
+returns-in-Err-enter-clause-undamaged g c h url opening start given is fault = died_undamaged c.enter.new.recorder.dead Disk fault c.in-Err-enter.ensures.stopped.1 tt
+
+pub returns-clause-undamaged : goal.returns-clause-undamaged
+returns-clause-undamaged g c h url opening start given is fault =
+    alive_undamaged c.enter.new.recorder.dead fault (c.in-Ok-enter.ensures.ended.2 ∙ c.in-Ok.ensures.alive ∙ ap (λ (x : Recorder g.row.D.Denot). x.dead) c.reserve.ensures.rest ∙ c.requires.alive)

@@ -1,9 +1,10 @@
-use Rattle.std.proofs.Common.{ℕ, List, sym, ◌∙◌, ap, subst}
+use Rattle.std.proofs.Common.{List, sym, ◌∙◌, ap, subst}
 use Rattle.dav_index.specs.declared.table.Table.{Table}
 use Rattle.dav_deeds.specs.DeskTable.{DeskTable, started}
 use Rattle.dav_recorder.specs.Opening.{IsIndexOf}
 use Rattle.dav_deeds.specs.Legal.{table_after}
 use Rattle.dav_deeds.specs.declared.deed.Step.{Step}
+use Rattle.dav_desk.specs.Called.{AreTimed}
 use Rattle.dav_desk.proofs.desk.Desk.start.Goals as goal
 
 pub returns-in-Ok-clause-working : goal.returns-in-Ok-clause-working
@@ -27,3 +28,6 @@ pub returns-in-Ok-clause-indexed : goal.returns-in-Ok-clause-indexed
 returns-in-Ok-clause-indexed g c =
     let indexed = c.in-Ok.ensures.indexed in
     (indexed.0, subst (λ (t : Table). IsIndexOf c.args.url.now t indexed.0) (sym (ap (λ (t : DeskTable). t.index) c.start-in-Ok.ensures)) indexed.1)
+
+pub returns-in-Ok-clause-moments : goal.returns-in-Ok-clause-moments
+returns-in-Ok-clause-moments g c = subst (λ (l : List Step). AreTimed (g.D.Disk.moment c.args.disk) l (g.D.Disk.moment c.in-Ok.recorder.disk)) (sym c.in-Ok.ensures.fresh.0) c.in-Ok.ensures.moments

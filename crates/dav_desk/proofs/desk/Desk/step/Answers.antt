@@ -25,7 +25,7 @@ use Rattle.dav_deeds.specs.declared.plan.Planned.{Planned}
 use Rattle.dav_deeds.specs.declared.deed.Step.{Step}
 use Rattle.dav_desk.specs.Changed.{fresh_by, freed_by, IsPut}
 use Rattle.dav_desk.proofs.Changing.{idle_frees, stored_nothing, empty_nothing, ok_map, on_ok_map}
-use Rattle.dav_desk.proofs.Calling.{asked_spare, uncalled, spare_taken, by_step}
+use Rattle.dav_desk.proofs.Calling.{alive_undamaged, asked_spare, uncalled, spare_taken, by_step}
 use Rattle.dav_desk.proofs.desk.Desk.step.Goals as goal
 
 pub returns-in-Some-clause-asked : goal.returns-in-Some-clause-asked
@@ -181,3 +181,21 @@ returns-then-ends_job-clause-asked g c =
     let step = c.plan_end-planned.result.made.step in
     asked_spare g.D.Disk.honest g.D.Disk.moment g.D.Disk.seen g.D.Disk.faults c.args.who step.who c.args.now step.now c.args.ask.now c.args.self.now c.carry_out.new.self c.take.new.self c.carry_out.result
     (ap (λ (s : Step). s.who) c.plan_end-planned.ensures.step) (ap (λ (s : Step). s.now) c.plan_end-planned.ensures.step) (sym c.in_default.ensures) c.carry_out.ensures.asked
+
+pub returns-in-Some-clause-undamaged : goal.returns-in-Some-clause-undamaged
+returns-in-Some-clause-undamaged g c h url opening start given is fault = alive_undamaged c.args.self.now.recorder.dead fault is.alive
+
+pub returns-in_err-planned-clause-undamaged : goal.returns-in_err-planned-clause-undamaged
+returns-in_err-planned-clause-undamaged g c h url opening start given is fault = alive_undamaged c.args.self.now.recorder.dead fault is.alive
+
+pub returns-in_default-2-clause-undamaged : goal.returns-in_default-2-clause-undamaged
+returns-in_default-2-clause-undamaged g c h url opening start given is fault = alive_undamaged c.args.self.now.recorder.dead fault is.alive
+
+pub returns-in_err-saved-clause-undamaged : goal.returns-in_err-saved-clause-undamaged
+returns-in_err-saved-clause-undamaged g c h url opening start given is fault = alive_undamaged c.args.self.now.recorder.dead fault is.alive
+
+pub returns-then-ends_job-clause-undamaged : goal.returns-then-ends_job-clause-undamaged
+returns-then-ends_job-clause-undamaged g c h url opening start given is = c.carry_out.ensures.undamaged h url opening start given (record { alive = is.alive; table = is.table; live = is.live })
+
+pub returns-clause-undamaged : goal.returns-clause-undamaged
+returns-clause-undamaged g c h url opening start given is = c.carry_out-2.ensures.undamaged h url opening start given is
