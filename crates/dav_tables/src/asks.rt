@@ -18,7 +18,7 @@ use std::alloc::{AllocError, Global};
 pub(crate) const URL: &str = "http://h/";
 
 /// The path of a text.
-fn path_at(alloc: Global, text: &str, fault: RowFault) -> Result<Path, RowFault>
+pub(crate) fn path_at(alloc: Global, text: &str, fault: RowFault) -> Result<Path, RowFault>
     ensures { IfOk result (λ path. IsPath path) }
 {
     match Path::read(alloc, text) {
