@@ -94,7 +94,13 @@ fn fill(alloc: Global, store: &mut LockStore, count: u32) -> Result<(), LockFaul
         let Ok(token) = format!(in alloc; "{number}") else {
             return Err(LockFault::Memory);
         };
-        hold(alloc, store, Depth::Zero, Path::top(alloc), token.as_bytes())?;
+        hold(
+            alloc,
+            store,
+            Depth::Zero,
+            Path::top(alloc),
+            token.as_bytes(),
+        )?;
     }
     Ok(())
 }
