@@ -1,12 +1,15 @@
-ghost use Rattle.std.specs.Prelude.{◌≡◌, ◌+◌, ◌<◌, ◌^◌, ◌⊎◌, ◌∷◌, [], ◌++◌, List, ℕ, length, Some, Err, IfOk, IfErr};
+ghost use Rattle.std.specs.Prelude.{◌≡◌, ◌+◌, ◌<◌, ◌^◌, ◌⊎◌, ◌≤◌, ◌∷◌, [], ◌++◌, List, ℕ, length, take, get_or, Some, Err, IfOk, IfErr};
 ghost use Rattle.dav_xml.specs.Parts.{StepAt};
 ghost use Rattle.dav_xml.specs.Stands.{stack_of};
 ghost use Rattle.dav_doc.specs.Document as document;
 ghost use Rattle.dav_doc.specs.Document.{Forest, IsDocument, events};
 ghost use Rattle.dav_xml.specs.Ending.{is_over as is_over_lem, is_whole as is_whole_lem};
 ghost use Rattle.dav_xml.specs.Events.{lent_in, later_in, event_in};
+ghost use Rattle.dav_xml.specs.Ahead.{IsText, IsOfName};
+ghost use Rattle.dav_markup.specs.Owing.{owed_in};
 ghost use Rattle.dav_xml.specs.Read.{HasRead, Feeds, Advances, Stops, Fails, lent};
 
+use crate::ahead::Ahead;
 use crate::event::{Event, Lent};
 use crate::fault::XmlFault;
 use crate::limit::limit_of;
@@ -16,7 +19,7 @@ use crate::turn::{Turn, size_at, take_step};
 use dav_markup::character::Owed;
 use dav_markup::outer::Outer;
 use dav_markup::scope::Open;
-use dav_text::Memory;
+use dav_text::{Blob, Memory};
 use std::alloc::Global;
 use std::mem;
 
@@ -144,6 +147,74 @@ impl Scan {
         Ok(())
     }
 
+    /// Takes bytes that are text of an element.
+    #[tactic(none)]
+    fn take_text(&mut self, run: &[u8], owed: Owed) -> Result<(), Memory>
+        requires room { self.old.at + length run.now < 2 ^ 64 }
+        requires text { IsText self.old.position self.old.opens.items run.now (owed_in self.old.owed) (owed_in owed) }
+        ensures goes { (text : List ℕ) (given : List document.Event) → HasRead self.old text given → later_in self.old.lent ≡ []
+            → IfOk result (λ _. HasRead self.new (text ++ run.now) (given ++ lent_in self.new.lent)) }
+        ensures at { IfOk result (λ _. self.new.at ≡ self.old.at + length run.now) }
+    {
+        let bytes = Blob::copy_of(self.alloc, run)?;
+        self.lent = Lent::Run(bytes);
+        self.owed = owed;
+        self.at += run.len() as u64;
+        Ok(())
+    }
+
+    /// Takes bytes that go on with a name of a start tag or an end tag.
+    #[tactic(none)]
+    fn take_name(&mut self, run: &[u8], owed: Owed) -> Result<(), Memory>
+        requires room { self.old.at + length run.now < 2 ^ 64 }
+        requires naming { IsOfName self.old.position self.old.size run.now (owed_in self.old.owed) (owed_in owed) }
+        requires quiet { self.old.lent ≡ Lent.Nothing }
+        ensures goes { (text : List ℕ) (given : List document.Event) → HasRead self.old text given → later_in self.old.lent ≡ []
+            → IfOk result (λ _. HasRead self.new (text ++ run.now) (given ++ lent_in self.new.lent)) }
+        ensures at { IfOk result (λ _. self.new.at ≡ self.old.at + length run.now) }
+    {
+        let position = mem::replace(&mut self.position, Position::Return);
+        let position = position.longer(run)?;
+        self.position = position;
+        self.owed = owed;
+        self.size += run.len() as u32;
+        self.at += run.len() as u64;
+        Ok(())
+    }
+
+    /// Takes the longest stretch of the bytes that leads on alike, or one byte. How many it took.
+    #[tactic(none)]
+    fn advance(&mut self, bytes: &[u8]) -> Result<usize, XmlFault>
+        requires room { self.old.at + length bytes.now < 2 ^ 64 }
+        requires some { 0 < length bytes.now }
+        requires quiet { self.old.lent ≡ Lent.Nothing }
+        ensures goes { (text : List ℕ) (given : List document.Event) → HasRead self.old text given
+            → IfOk result (λ used. HasRead self.new (text ++ take used bytes.now) (given ++ lent_in self.new.lent)) }
+        ensures stops { (text : List ℕ) (given : List document.Event) → HasRead self.old text given
+            → IfErr result (λ fault. (fault ≡ XmlFault.Memory) ⊎ Fails text given (get_or bytes.now 0 0) fault) }
+        ensures at { IfOk result (λ used. self.new.at ≡ self.old.at + used) }
+        ensures used { IfOk result (λ used. (0 < used) × (used ≤ length bytes.now)) }
+    {
+        match self.position.ahead(&self.opens, self.owed, self.size, bytes) {
+            Ahead::Byte => match self.take(bytes[0]) {
+                Ok(()) => Ok(1),
+                Err(fault) => Err(fault),
+            },
+            Ahead::Text(stretch) => {
+                match self.take_text(&bytes[..stretch.len], stretch.owed) {
+                    Ok(()) => Ok(stretch.len),
+                    Err(Memory) => Err(XmlFault::Memory),
+                }
+            }
+            Ahead::Name(stretch) => {
+                match self.take_name(&bytes[..stretch.len], stretch.owed) {
+                    Ok(()) => Ok(stretch.len),
+                    Err(Memory) => Err(XmlFault::Memory),
+                }
+            }
+        }
+    }
+
     /// Takes bytes of the piece up to the first event, which is then ready. Where none is ready the
     /// whole piece was taken; where one is ready and no byte was taken, it is the end of the empty
     /// element whose start was ready before. So the calls for a piece come to an end. The document is
@@ -173,26 +244,21 @@ impl Scan {
                 ready: true,
             });
         }
-        for (index, byte) in piece.iter().enumerate() {
-            match self.take(*byte) {
-                Ok(()) => {}
+        self.lent = Lent::Nothing;
+        let mut used = 0;
+        while used < piece.len() {
+            match self.advance(&piece[used..]) {
+                Ok(count) => used += count,
                 Err(fault) => {
                     self.fault = Some(fault);
                     return Err(fault);
                 }
             }
             if self.lent.is_ready() {
-                return Ok(Fed {
-                    used: index + 1,
-                    ready: true,
-                });
+                return Ok(Fed { used, ready: true });
             }
         }
-        self.lent = Lent::Nothing;
-        Ok(Fed {
-            used: piece.len(),
-            ready: false,
-        })
+        Ok(Fed { used, ready: false })
     }
 
     /// The event that is ready. Text without a byte where none is.
