@@ -1,9 +1,9 @@
 -- A stretch of a piece taken by the code.
-use Rattle.std.proofs.Common.{◌≡◌, ℕ, ◌+◌, ◌<◌, ◌≤◌, ◌^◌, Bool, true, false, List, [], ◌∷◌, ◌++◌, length, take, drop, refl, ap, sym, ◌∙◌, subst, arith, Option, Some, None}
+use Rattle.std.proofs.Common.{◌≡◌, ℕ, ◌+◌, ◌<◌, ◌≤◌, ◌^◌, Bool, true, false, List, [], ◌∷◌, ◌++◌, length, take, drop, get_or, refl, ap, sym, ◌∙◌, subst, arith, Option, Some, None}
 use Rattle.std.specs.Prelude.{if◌then◌else◌}
-use Rattle.std.proofs.lemmas.List.{append-nil, length-append}
+use Rattle.std.proofs.lemmas.List.{append-nil, length-append, take_more}
 use Rattle.dav_doc.specs.Bytes.{kind}
-use Rattle.dav_doc.specs.Characters.{Owed}
+use Rattle.dav_doc.specs.Characters.{Owed, owed_after}
 use Rattle.dav_doc.specs.Document.{Event}
 use Rattle.dav_doc.specs.Machine as machine
 use Rattle.dav_doc.specs.Machine.{State, Move, Bad, To, chars, longer}
@@ -13,7 +13,9 @@ use Rattle.dav_markup.specs.Name.{name_in}
 use Rattle.dav_markup.specs.Owing.{owed_in}
 use Rattle.dav_markup.specs.Stretch.{longer_by}
 use Rattle.dav_markup.specs.declared.character.Owed.{Owed as CodeOwed}
+use Rattle.dav_markup.specs.declared.name.Name.{Name}
 use Rattle.dav_markup.specs.declared.scope.Open.{Open}
+use Rattle.dav_markup.specs.declared.scope.Tag.{Tag}
 use Rattle.dav_markup.specs.declared.section.Brackets.TheVariants.{Zero}
 use Rattle.dav_xml.specs.declared.event.Lent.TheVariants as lents
 use Rattle.dav_xml.specs.declared.position.Position.{Position}
@@ -21,7 +23,7 @@ use Rattle.dav_xml.specs.declared.position.Position.TheVariants as positions
 use Rattle.dav_xml.specs.declared.position.StartTag.{StartTag}
 use Rattle.dav_xml.specs.declared.position.StartTag.TheVariants as starting
 use Rattle.dav_xml.specs.declared.scan.Scan.{Scan}
-use Rattle.dav_xml.specs.Ahead.{IsText, IsNaming, IsEnding, IsOfName, starts, ends, is_naming, Lengthens, LengthensName, CanLengthen}
+use Rattle.dav_xml.specs.Ahead.{IsText, IsNaming, IsEnding, IsOfName, in_start, in_end, is_naming, Lengthens, LengthensName, CanLengthen}
 use Rattle.dav_xml.specs.Events.{lent_in, later_in}
 use Rattle.dav_xml.specs.Read.{HasRead}
 use Rattle.dav_xml.specs.Reading.{is_tag, attributes_of, begins, limit_by, size_by, Stand, begin, Verdict, Refused, Passes, Goes, goes_by, judged, next, Reading, behind, on_verdict, reads}
@@ -54,7 +56,7 @@ tidy_verdict : (s : List ℕ) (b : ℕ) (x : Stand) (r : Reading) (v : Verdict) 
     → ((y : Stand) (q : Reading) → Tidy y → reads s y ≡ Some q → Tidy q.stand) → Tidy r.stand
 tidy_verdict s b x r Refused h g f = absurd cc
 tidy_verdict s b x r (Passes which) h g f = absurd cc
-tidy_verdict s b x r (Goes y e) h g f = tidy_reading s y e r (reads s y) refl g (λ q. f y q (tidy_by x _ _ y e h))
+tidy_verdict s b x r (Goes y e) h g f = tidy_reading s y e r (reads s y) refl g (λ q. f y q (tidy_by x (owed_after x.owed b) (machine.step x.state b) y e h))
 
 reads_tidy : (s : List ℕ) (x : Stand) (r : Reading) → Tidy x → reads s x ≡ Some r → Tidy r.stand
 reads_tidy [] x r t h = let e : record { stand = x; events = [] } ≡ r = cc in subst (λ (z : Reading). Tidy z.stand) e t
@@ -111,15 +113,15 @@ record LeadsOn (st : State) (w v : Owed) (size : ℕ) (run : List ℕ) (next : P
   read : reads run (record { state = st; owed = w; size = size }) ≡ Some (record { stand = record { state = state; owed = v; size = size + length run }; events = [] })
   stands : Stands next os state
 
-start_goes : (start longer : StartTag) (os : List machine.Open) (st : State) (w v : Owed) (size : ℕ) (run : List ℕ) → IsNaming (positions.Start start) size run w v → is_naming start ≡ true
-    → StartsAt start os st → LengthensName start run longer → LeadsOn st w v size run (positions.Start longer) os
-start_goes (starting.Name name) longer os st w v size run n i h g = record {
+start_goes : (start more : StartTag) (os : List machine.Open) (st : State) (w v : Owed) (size : ℕ) (run : List ℕ) → IsNaming (positions.Start start) size run w v → is_naming start ≡ true
+    → StartsAt start os st → LengthensName start run more → LeadsOn st w v size run (positions.Start more) os
+start_goes (starting.Name name) more os st w v size run n i h g = record {
   state = machine.InName os (longer_by (name_in name) run);
   read = ap (λ z. reads run (record { state = z; owed = w; size = size })) h
       ∙ reads_name (machine.InName os) (λ m. refl) (λ m b e. name_longer os m (longer m b) b (kind b) refl e) run (name_in name) w v size i n.small n.all;
   stands = subst (λ (z : StartTag). StartsAt z os (machine.InName os (longer_by (name_in name) run))) (sym g.1) (ap (machine.InName os) (sym g.2));
 }
-start_goes (starting.Attribute tag name) longer os st w v size run n i h g = record {
+start_goes (starting.Attribute tag name) more os st w v size run n i h g = record {
   state = machine.AtName os h.t h.blanks (longer_by (name_in name) run);
   read = ap (λ z. reads run (record { state = z; owed = w; size = size })) h.is
       ∙ reads_name (machine.AtName os h.t h.blanks) (λ m. refl) (λ m b e. attribute_longer os h.t h.blanks m (longer m b) b (kind b) refl e)
@@ -127,12 +129,12 @@ start_goes (starting.Attribute tag name) longer os st w v size run n i h g = rec
   stands = subst (λ (z : StartTag). StartsAt z os (machine.AtName os h.t h.blanks (longer_by (name_in name) run))) (sym g.1)
       (record { t = h.t; blanks = h.blanks; fits = h.fits; is = ap (machine.AtName os h.t h.blanks) (sym g.2) });
 }
-start_goes (starting.Between tag some) longer os st w v size run n i h g = absurd cc
-start_goes (starting.Slash tag ns) longer os st w v size run n i h g = absurd cc
-start_goes (starting.BeforeEquals tag name) longer os st w v size run n i h g = absurd cc
-start_goes (starting.AfterEquals tag name) longer os st w v size run n i h g = absurd cc
-start_goes (starting.Value value) longer os st w v size run n i h g = absurd cc
-start_goes (starting.ValueReference value reference) longer os st w v size run n i h g = absurd cc
+start_goes (starting.Between tag some) more os st w v size run n i h g = absurd cc
+start_goes (starting.Slash tag ns) more os st w v size run n i h g = absurd cc
+start_goes (starting.BeforeEquals tag name) more os st w v size run n i h g = absurd cc
+start_goes (starting.AfterEquals tag name) more os st w v size run n i h g = absurd cc
+start_goes (starting.Value value) more os st w v size run n i h g = absurd cc
+start_goes (starting.ValueReference value reference) more os st w v size run n i h g = absurd cc
 
 end_goes : (name : List ℕ) (came : ℕ) (os : List machine.Open) (st : State) (w v : Owed) (size : ℕ) (run : List ℕ) → IsEnding (positions.End name came) size run w v
     → came + length run ≤ length name → run ≡ take (length run) (drop came name) → InEndName name came os st → LeadsOn st w v size run (positions.End name (came + length run)) os
@@ -148,12 +150,12 @@ end_goes name came os st w v size run n c e h =
 
 name_goes : (p next : Position) (os : List machine.Open) (st : State) (w v : Owed) (size : ℕ) (run : List ℕ) → IsOfName p size run w v → Stands p os st → Lengthens p run next
     → LeadsOn st w v size run next os
-name_goes p next os st w v size run (starts n) h g =
+name_goes p next os st w v size run (in_start n) h g =
     let k : Lengthens (positions.Start n.start) run next = subst (λ (z : Position). Lengthens z run next) n.is g in
     let m : IsNaming (positions.Start n.start) size run w v = record { start = n.start; is = refl; naming = n.naming; small = n.small; all = n.all } in
     let q : LeadsOn st w v size run (positions.Start k.0) os = start_goes n.start k.0 os st w v size run m n.naming (subst (λ (z : Position). Stands z os st) n.is h) k.2 in
     subst (λ (z : Position). LeadsOn st w v size run z os) (sym k.1) q
-name_goes p next os st w v size run (ends n) h g =
+name_goes p next os st w v size run (in_end n) h g =
     let k : Lengthens (positions.End n.name n.came) run next = subst (λ (z : Position). Lengthens z run next) n.is g in
     let m : IsEnding (positions.End n.name n.came) size run w v =
     record { name = n.name; came = n.came; is = refl; fits = n.fits; short = n.short; same = n.same; small = n.small; owed = n.owed } in
@@ -161,12 +163,12 @@ name_goes p next os st w v size run (ends n) h g =
     subst (λ (z : Position). LeadsOn st w v size run z os) (sym k) q
 
 pub can_lengthen : (p : Position) (size : ℕ) (run : List ℕ) (w v : Owed) → IsOfName p size run w v → CanLengthen p run
-can_lengthen p size run w v (starts n) = subst (λ (z : Position). CanLengthen z run) (sym n.is) tt
-can_lengthen p size run w v (ends n) = subst (λ (z : Position). CanLengthen z run) (sym n.is) n.fits
+can_lengthen p size run w v (in_start n) = subst (λ (z : Position). CanLengthen z run) (sym n.is) tt
+can_lengthen p size run w v (in_end n) = subst (λ (z : Position). CanLengthen z run) (sym n.is) n.fits
 
 pub small_name : (p : Position) (size : ℕ) (run : List ℕ) (w v : Owed) → IsOfName p size run w v → size + length run ≤ 65536
-small_name p size run w v (starts n) = n.small
-small_name p size run w v (ends n) = n.small
+small_name p size run w v (in_start n) = n.small
+small_name p size run w v (in_end n) = n.small
 
 pub takes_name : (old new : Scan) (text : List ℕ) (given : List Event) (run : List ℕ) (owed : CodeOwed) → HasRead old text given → later_in old.lent ≡ []
     → old.lent ≡ lents.Nothing → IsOfName old.position old.size run (owed_in old.owed) (owed_in owed) → Lengthens old.position run new.position → new.lent ≡ old.lent
@@ -181,3 +183,18 @@ takes_name old new text given run owed h l q n g y o d s w a f =
     ∙ ap (λ z. Some (record { stand = record { state = k.state; owed = owed_in new.owed; size = z }; events = [] })) (sym s)
     ∙ ap (λ z. Some (record { stand = record { state = k.state; owed = owed_in new.owed; size = new.size }; events = lent_in z })) (sym (y ∙ q)) in
     passed old new text given run k.state h l r (ap later_in (y ∙ q)) (subst (λ (z : List Open). Stands new.position (stack_of z) k.state) (sym o) k.stands) d o a f
+
+-- the first byte
+pub one_taken : (text bytes : List ℕ) (b : ℕ) → 0 < length bytes → b ≡ get_or bytes 0 0 → text ++ (b ∷ []) ≡ text ++ take 1 bytes
+one_taken text bytes b h e = ap (λ z. text ++ (z ∷ [])) e ∙ ap (λ z. text ++ z) (sym (take_more bytes 0 0 h))
+
+-- what stands in the default arm of the tag's names
+pub unnamed : (start : StartTag) (run : List ℕ) → ((name : Name) → start ≡ starting.Name name → ⊥) → ((tag : Tag) (name : Name) → start ≡ starting.Attribute tag name → ⊥) → LengthensName start run start
+unnamed (starting.Name name) run f g = absurd (f name refl)
+unnamed (starting.Attribute tag name) run f g = absurd (g tag name refl)
+unnamed (starting.Between tag some) run f g = refl
+unnamed (starting.Slash tag ns) run f g = refl
+unnamed (starting.BeforeEquals tag name) run f g = refl
+unnamed (starting.AfterEquals tag name) run f g = refl
+unnamed (starting.Value value) run f g = refl
+unnamed (starting.ValueReference value reference) run f g = refl

@@ -142,7 +142,7 @@ fed_none old now piece l p o w s d a f n = record {
 abbrev pub left_of : List ℕ → ℕ → List ℕ
 left_of piece i = take (length piece - i) (drop i piece)
 
-left_length : (piece : List ℕ) (i : ℕ) → length (left_of piece i) ≡ length piece - i
+pub left_length : (piece : List ℕ) (i : ℕ) → length (left_of piece i) ≡ length piece - i
 left_length piece i = ap length (rest_of piece i) ∙ length-drop i piece
 
 -- a front of the piece with more bytes

@@ -16,6 +16,7 @@ use Rattle.dav_markup.specs.End.{end_at}
 use Rattle.dav_markup.specs.Name.{is_begun}
 use Rattle.dav_markup.specs.Stretch.{is_plain, after_all, longer_by}
 use Rattle.dav_markup.proofs.EndLemmas.{named}
+use Rattle.dav_text.specs.declared.which.Which.TheVariants as which
 use Rattle.dav_xml.specs.Reading.{is_tag, attributes_of, limit_by, tag_limit, Stand, begin, Goes, next, Reading, on_verdict, behind, reads}
 use Rattle.dav_xml.proofs.ReadLemmas.{reads_append, on_reading}
 use Rattle.dav_xml.proofs.TakeLemmas.{goes_on, end_tag}
@@ -85,7 +86,7 @@ module _ (o : machine.Open) (os : List machine.Open) where
 
 -- a byte in a tag has room
 small : (size : ℕ) → size < 65536 → tag_limit size ≡ None
-small size h = let k : nat_le 65536 size ≡ false = grind (arith, nat_tests) in ap (λ z. if z then _ else None) k
+small size h = let k : nat_le 65536 size ≡ false = grind (arith, nat_tests) in ap (λ (z : Bool). if z then Some which.Tag else None) k
 
 tag_goes : (x : Stand) (b : ℕ) (o : Owed) (new : State) → owed_after x.owed b ≡ Some o → step x.state b ≡ To new [] → is_tag new ≡ true → x.size < 65536
     → next x b ≡ Goes (record { state = new; owed = o; size = x.size + 1 }) []

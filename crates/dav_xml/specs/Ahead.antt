@@ -48,8 +48,8 @@ pub record IsEnding (p : Position) (size : ℕ) (run : List ℕ) (o v : Owed) : 
 
 -- these bytes are of the name of a start tag or an end tag
 pub data IsOfName (p : Position) (size : ℕ) (run : List ℕ) (o v : Owed) : Type 0 where
-  starts : IsNaming p size run o v → IsOfName p size run o v
-  ends : IsEnding p size run o v → IsOfName p size run o v
+  in_start : IsNaming p size run o v → IsOfName p size run o v
+  in_end : IsEnding p size run o v → IsOfName p size run o v
 
 -- how many bytes the tag may still have
 abbrev pub room : ℕ → ℕ

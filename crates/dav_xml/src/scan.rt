@@ -5,7 +5,7 @@ ghost use Rattle.dav_doc.specs.Document as document;
 ghost use Rattle.dav_doc.specs.Document.{Forest, IsDocument, events};
 ghost use Rattle.dav_xml.specs.Ending.{is_over as is_over_lem, is_whole as is_whole_lem};
 ghost use Rattle.dav_xml.specs.Events.{lent_in, later_in, event_in};
-ghost use Rattle.dav_xml.specs.Ahead.{IsText, IsOfName};
+ghost use Rattle.dav_xml.specs.Ahead.{IsAhead};
 ghost use Rattle.dav_markup.specs.Owing.{owed_in};
 ghost use Rattle.dav_xml.specs.Read.{HasRead, Feeds, Advances, Stops, Fails, lent};
 
@@ -19,6 +19,7 @@ use crate::turn::{Turn, size_at, take_step};
 use dav_markup::character::Owed;
 use dav_markup::outer::Outer;
 use dav_markup::scope::Open;
+use dav_markup::stretch::Stretch;
 use dav_text::{Blob, Memory};
 use std::alloc::Global;
 use std::mem;
@@ -147,43 +148,69 @@ impl Scan {
         Ok(())
     }
 
-    /// Takes bytes that are text of an element.
-    #[tactic(none)]
-    fn take_text(&mut self, run: &[u8], owed: Owed) -> Result<(), Memory>
-        requires room { self.old.at + length run.now < 2 ^ 64 }
-        requires text { IsText self.old.position self.old.opens.items run.now (owed_in self.old.owed) (owed_in owed) }
-        ensures goes { (text : List ℕ) (given : List document.Event) → HasRead self.old text given → later_in self.old.lent ≡ []
-            → IfOk result (λ _. HasRead self.new (text ++ run.now) (given ++ lent_in self.new.lent)) }
-        ensures at { IfOk result (λ _. self.new.at ≡ self.old.at + length run.now) }
+    /// Takes the first of the bytes.
+    fn take_byte(&mut self, bytes: &[u8]) -> Result<usize, XmlFault>
+        requires room { self.old.at + length bytes.now < 2 ^ 64 }
+        requires some { 0 < length bytes.now }
+        requires quiet { self.old.lent ≡ Lent.Nothing }
+        ensures goes { (text : List ℕ) (given : List document.Event) → HasRead self.old text given
+            → IfOk result (λ used. HasRead self.new (text ++ take used bytes.now) (given ++ lent_in self.new.lent)) }
+        ensures stops { (text : List ℕ) (given : List document.Event) → HasRead self.old text given
+            → IfErr result (λ fault. (fault ≡ XmlFault.Memory) ⊎ Fails text given (get_or bytes.now 0 0) fault) }
+        ensures at { IfOk result (λ used. self.new.at ≡ self.old.at + used) }
+        ensures used { IfOk result (λ used. (0 < used) × (used ≤ length bytes.now)) }
     {
-        let bytes = Blob::copy_of(self.alloc, run)?;
-        self.lent = Lent::Run(bytes);
-        self.owed = owed;
-        self.at += run.len() as u64;
-        Ok(())
+        match self.take(bytes[0]) {
+            Ok(()) => Ok(1),
+            Err(fault) => Err(fault),
+        }
     }
 
-    /// Takes bytes that go on with a name of a start tag or an end tag.
-    #[tactic(none)]
-    fn take_name(&mut self, run: &[u8], owed: Owed) -> Result<(), Memory>
-        requires room { self.old.at + length run.now < 2 ^ 64 }
-        requires naming { IsOfName self.old.position self.old.size run.now (owed_in self.old.owed) (owed_in owed) }
+    /// Takes text of an element.
+    fn take_text(&mut self, bytes: &[u8], stretch: Stretch) -> Result<usize, XmlFault>
+        requires room { self.old.at + length bytes.now < 2 ^ 64 }
+        requires ahead { IsAhead self.old.position self.old.opens.items self.old.size (owed_in self.old.owed) bytes.now (Ahead.Text stretch) }
         requires quiet { self.old.lent ≡ Lent.Nothing }
-        ensures goes { (text : List ℕ) (given : List document.Event) → HasRead self.old text given → later_in self.old.lent ≡ []
-            → IfOk result (λ _. HasRead self.new (text ++ run.now) (given ++ lent_in self.new.lent)) }
-        ensures at { IfOk result (λ _. self.new.at ≡ self.old.at + length run.now) }
+        ensures goes { (text : List ℕ) (given : List document.Event) → HasRead self.old text given
+            → IfOk result (λ used. HasRead self.new (text ++ take used bytes.now) (given ++ lent_in self.new.lent)) }
+        ensures stops { (text : List ℕ) (given : List document.Event) → HasRead self.old text given
+            → IfErr result (λ fault. (fault ≡ XmlFault.Memory) ⊎ Fails text given (get_or bytes.now 0 0) fault) }
+        ensures at { IfOk result (λ used. self.new.at ≡ self.old.at + used) }
+        ensures used { IfOk result (λ used. (0 < used) × (used ≤ length bytes.now)) }
+    {
+        let Ok(copy) = Blob::copy_of(self.alloc, &bytes[..stretch.len]) else {
+            return Err(XmlFault::Memory);
+        };
+        self.lent = Lent::Run(copy);
+        self.owed = stretch.owed;
+        self.at += stretch.len as u64;
+        Ok(stretch.len)
+    }
+
+    /// Takes more of a name of a start tag or an end tag.
+    fn take_name(&mut self, bytes: &[u8], stretch: Stretch) -> Result<usize, XmlFault>
+        requires room { self.old.at + length bytes.now < 2 ^ 64 }
+        requires ahead { IsAhead self.old.position self.old.opens.items self.old.size (owed_in self.old.owed) bytes.now (Ahead.Name stretch) }
+        requires quiet { self.old.lent ≡ Lent.Nothing }
+        ensures goes { (text : List ℕ) (given : List document.Event) → HasRead self.old text given
+            → IfOk result (λ used. HasRead self.new (text ++ take used bytes.now) (given ++ lent_in self.new.lent)) }
+        ensures stops { (text : List ℕ) (given : List document.Event) → HasRead self.old text given
+            → IfErr result (λ fault. (fault ≡ XmlFault.Memory) ⊎ Fails text given (get_or bytes.now 0 0) fault) }
+        ensures at { IfOk result (λ used. self.new.at ≡ self.old.at + used) }
+        ensures used { IfOk result (λ used. (0 < used) × (used ≤ length bytes.now)) }
     {
         let position = mem::replace(&mut self.position, Position::Return);
-        let position = position.longer(run)?;
+        let Ok(position) = position.longer(&bytes[..stretch.len]) else {
+            return Err(XmlFault::Memory);
+        };
         self.position = position;
-        self.owed = owed;
-        self.size += run.len() as u32;
-        self.at += run.len() as u64;
-        Ok(())
+        self.owed = stretch.owed;
+        self.size += stretch.len as u32;
+        self.at += stretch.len as u64;
+        Ok(stretch.len)
     }
 
     /// Takes the longest stretch of the bytes that leads on alike, or one byte. How many it took.
-    #[tactic(none)]
     fn advance(&mut self, bytes: &[u8]) -> Result<usize, XmlFault>
         requires room { self.old.at + length bytes.now < 2 ^ 64 }
         requires some { 0 < length bytes.now }
@@ -195,23 +222,13 @@ impl Scan {
         ensures at { IfOk result (λ used. self.new.at ≡ self.old.at + used) }
         ensures used { IfOk result (λ used. (0 < used) × (used ≤ length bytes.now)) }
     {
-        match self.position.ahead(&self.opens, self.owed, self.size, bytes) {
-            Ahead::Byte => match self.take(bytes[0]) {
-                Ok(()) => Ok(1),
-                Err(fault) => Err(fault),
-            },
-            Ahead::Text(stretch) => {
-                match self.take_text(&bytes[..stretch.len], stretch.owed) {
-                    Ok(()) => Ok(stretch.len),
-                    Err(Memory) => Err(XmlFault::Memory),
-                }
-            }
-            Ahead::Name(stretch) => {
-                match self.take_name(&bytes[..stretch.len], stretch.owed) {
-                    Ok(()) => Ok(stretch.len),
-                    Err(Memory) => Err(XmlFault::Memory),
-                }
-            }
+        match self
+            .position
+            .ahead(&self.opens, self.owed, self.size, bytes)
+        {
+            Ahead::Byte => self.take_byte(bytes),
+            Ahead::Text(stretch) => self.take_text(bytes, stretch),
+            Ahead::Name(stretch) => self.take_name(bytes, stretch),
         }
     }
 
