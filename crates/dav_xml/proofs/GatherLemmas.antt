@@ -51,6 +51,7 @@ midway_on scan next tree new text rest left fed m f e g = record {
 nothing_lent : (lent : Lent) → is_ready lent ≡ false → (lent_in lent ≡ []) × (later_in lent ≡ [])
 nothing_lent lents.Nothing e = (refl, refl)
 nothing_lent (lents.Chars few) e = cc
+nothing_lent (lents.Run bytes) e = cc
 nothing_lent (lents.Start depth ns name empty) e = cc
 nothing_lent (lents.End depth) e = cc
 
