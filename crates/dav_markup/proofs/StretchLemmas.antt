@@ -2,9 +2,8 @@
 use Rattle.std.proofs.Common.{◌≡◌, ℕ, ◌+◌, ◌<◌, ◌≤◌, Bool, List, [], ◌∷◌, ◌++◌, length, take, get_or, refl, ap, sym, ◌∙◌, append_assoc, arith, Option, Some, None}
 use Rattle.std.proofs.lemmas.List.{append-nil, take_more}
 use Rattle.dav_doc.specs.Characters.{Owed, owed_after, owed_by, on_owed}
-use Rattle.dav_doc.specs.Machine.{longer}
-use Rattle.dav_doc.specs.Names.{Name, Plain, Qualified}
-use Rattle.dav_markup.specs.Stretch.{after_alike, after_all, longer_by, IsStretch, IsShared}
+use Rattle.dav_doc.specs.Names.{Plain, Qualified}
+use Rattle.dav_markup.specs.Stretch.{after_alike, after_all, longer_by}
 
 on_some : (p : ℕ → Bool) (x : Option Owed) → on_owed x (after_all p []) ≡ x
 on_some p None = refl

@@ -1,5 +1,5 @@
 -- A stretch of a piece taken by the code.
-use Rattle.std.proofs.Common.{◌≡◌, ℕ, ◌+◌, ◌<◌, ◌≤◌, ◌^◌, Bool, true, false, List, [], ◌∷◌, ◌++◌, length, take, drop, get_or, refl, ap, sym, ◌∙◌, subst, arith, Option, Some, None}
+use Rattle.std.proofs.Common.{◌≡◌, ℕ, ◌+◌, ◌<◌, ◌≤◌, Bool, true, false, List, [], ◌∷◌, ◌++◌, length, take, drop, get_or, refl, ap, sym, ◌∙◌, subst, arith, Option, Some, None}
 use Rattle.std.specs.Prelude.{if◌then◌else◌}
 use Rattle.std.proofs.lemmas.List.{append-nil, length-append, take_more}
 use Rattle.dav_doc.specs.Bytes.{kind}
@@ -16,7 +16,6 @@ use Rattle.dav_markup.specs.declared.character.Owed.{Owed as CodeOwed}
 use Rattle.dav_markup.specs.declared.name.Name.{Name}
 use Rattle.dav_markup.specs.declared.scope.Open.{Open}
 use Rattle.dav_markup.specs.declared.scope.Tag.{Tag}
-use Rattle.dav_markup.specs.declared.section.Brackets.TheVariants.{Zero}
 use Rattle.dav_xml.specs.declared.event.Lent.TheVariants as lents
 use Rattle.dav_xml.specs.declared.position.Position.{Position}
 use Rattle.dav_xml.specs.declared.position.Position.TheVariants as positions
@@ -26,8 +25,8 @@ use Rattle.dav_xml.specs.declared.scan.Scan.{Scan}
 use Rattle.dav_xml.specs.Ahead.{IsText, IsNaming, IsEnding, IsOfName, in_start, in_end, is_naming, Lengthens, LengthensName, CanLengthen}
 use Rattle.dav_xml.specs.Events.{lent_in, later_in}
 use Rattle.dav_xml.specs.Read.{HasRead}
-use Rattle.dav_xml.specs.Reading.{is_tag, attributes_of, begins, limit_by, size_by, Stand, begin, Verdict, Refused, Passes, Goes, goes_by, judged, next, Reading, behind, on_verdict, reads}
-use Rattle.dav_xml.specs.Stands.{Stands, StartsAt, Inside, InEndName, IsInAttribute, stack_of}
+use Rattle.dav_xml.specs.Reading.{is_tag, attributes_of, begins, limit_by, size_by, Stand, begin, Verdict, Refused, Passes, Goes, judged, next, Reading, behind, on_verdict, reads}
+use Rattle.dav_xml.specs.Stands.{Stands, StartsAt, InEndName, stack_of}
 use Rattle.dav_xml.proofs.ReadLemmas.{by_limit}
 use Rattle.dav_xml.proofs.ScanLemmas.{stand_of, read_now}
 use Rattle.dav_xml.proofs.StepLemmas.{inside_of}

@@ -1,8 +1,7 @@
 -- The machines over a stretch of bytes.
-use Rattle.std.proofs.Common.{◌≡◌, ℕ, suc, ◌+◌, ◌<◌, ◌≤◌, Bool, true, false, List, [], ◌∷◌, ◌++◌, length, take, drop, get_or, refl, ap, sym, ◌∙◌, subst, append_assoc, add-one, arith, Option, Some, None}
+use Rattle.std.proofs.Common.{◌≡◌, ℕ, suc, ◌+◌, ◌<◌, ◌≤◌, Bool, true, false, List, [], ◌∷◌, ◌++◌, length, take, drop, get_or, refl, ap, sym, ◌∙◌, add-one, arith, Option, Some, None}
 use Rattle.std.specs.Prelude.{◌==◌, ◌||◌, not, nat_le, if◌then◌else◌}
 use Rattle.std.proofs.lemmas.Bool.Decides.{nat_tests}
-use Rattle.std.proofs.lemmas.List.{append-nil}
 use Rattle.std.proofs.Math.Seq.{drop-cons}
 use Rattle.dav_doc.specs.Bytes as bytes
 use Rattle.dav_doc.specs.Bytes.{kind, name_kind, in_name}
@@ -17,7 +16,7 @@ use Rattle.dav_markup.specs.Name.{is_begun}
 use Rattle.dav_markup.specs.Stretch.{is_plain, after_all, longer_by}
 use Rattle.dav_markup.proofs.EndLemmas.{named}
 use Rattle.dav_text.specs.declared.which.Which.TheVariants as which
-use Rattle.dav_xml.specs.Reading.{is_tag, attributes_of, limit_by, tag_limit, Stand, begin, Goes, next, Reading, on_verdict, behind, reads}
+use Rattle.dav_xml.specs.Reading.{is_tag, tag_limit, Stand, begin, Goes, next, on_verdict, behind, reads}
 use Rattle.dav_xml.proofs.ReadLemmas.{reads_append, on_reading}
 use Rattle.dav_xml.proofs.TakeLemmas.{goes_on, end_tag}
 
@@ -117,7 +116,7 @@ module _ (at : Name → State) (tags : (n : Name) → is_tag (at n) ≡ true)
   name_by_byte : (n : Name) (b : ℕ) (s : List ℕ) (w v : Owed) (size : ℕ) (t : Bool) (q : Option Owed) → in_name b ≡ t → owed_after w b ≡ q
       → on_owed (if t then q else None) (after_all in_name s) ≡ Some v → is_begun n ≡ true → size < 65536
       → ((y : Owed) → after_all in_name s y ≡ Some v
-        → reads s (naming (longer n b) y (size + 1)) ≡ Some (record { stand = naming (longer_by (longer n b) s) v (size + 1 + length s); events = [] }))
+      → reads s (naming (longer n b) y (size + 1)) ≡ Some (record { stand = naming (longer_by (longer n b) s) v (size + 1 + length s); events = [] }))
       → reads (b ∷ s) (naming n w size) ≡ Some (record { stand = naming (longer_by (longer n b) s) v (size + 1 + length s); events = [] })
   name_by_byte n b s w v size false q h g a i m f = absurd cc
   name_by_byte n b s w v size true None h g a i m f = absurd cc
@@ -146,7 +145,7 @@ module _ (o : machine.Open) (os : List machine.Open) where
   end_by_byte : (came : ℕ) (b : ℕ) (s : List ℕ) (w v : Owed) (size : ℕ) (q : Option Owed) → owed_after w b ≡ q → on_owed q (owed_by s) ≡ Some v
       → b ≡ get_or (written o.name) came 0 → came < length (written o.name) → size < 65536
       → ((y : Owed) → owed_by s y ≡ Some v
-        → reads s (ending (came + 1) y (size + 1)) ≡ Some (record { stand = ending (came + 1 + length s) v (size + 1 + length s); events = [] }))
+      → reads s (ending (came + 1) y (size + 1)) ≡ Some (record { stand = ending (came + 1 + length s) v (size + 1 + length s); events = [] }))
       → reads (b ∷ s) (ending came w size) ≡ Some (record { stand = ending (came + 1 + length s) v (size + 1 + length s); events = [] })
   end_by_byte came b s w v size None g a e c m f = absurd cc
   end_by_byte came b s w v size (Some y) g a e c m f =

@@ -1,4 +1,3 @@
-use Rattle.std.specs.Prelude.{ℕ}
 use Rattle.dav_markup.specs.Owing.{owed_in}
 use Rattle.dav_markup.specs.Stretch.{is_alike}
 use Rattle.dav_markup.proofs.StretchLemmas.{all_more}

@@ -1,4 +1,4 @@
-use Rattle.std.proofs.Common.{refl, ap, inl, ◌≡◌, ◌+◌, ◌≤◌, ◌∙◌, sym, subst, arith, length, take, length-take}
+use Rattle.std.proofs.Common.{refl, ap, inl, ◌≡◌, ◌+◌, sym, subst, arith, length, take, length-take}
 use Rattle.dav_markup.specs.Owing.{owed_in}
 use Rattle.dav_xml.specs.declared.position.Position.{Position}
 use Rattle.dav_xml.specs.Ahead.{Lengthens, CanLengthen}

@@ -1,4 +1,4 @@
-use Rattle.std.proofs.Common.{refl, ap, inl, ◌≡◌, ◌+◌, ◌∙◌, sym, arith, length, take, length-take}
+use Rattle.std.proofs.Common.{refl, ap, inl, ◌≡◌, ◌+◌, arith, length, take, length-take}
 use Rattle.dav_xml.specs.Events.{later_in}
 use Rattle.dav_xml.proofs.AheadLemmas.{takes_text}
 use Rattle.dav_xml.proofs.scan.Scan.take_text.Goals as goal
