@@ -5,3 +5,4 @@ pub mod RunLemmas
 pub mod OuterLemmas
 pub mod EndLemmas
 pub mod MarkupLemmas
+pub mod StretchLemmas

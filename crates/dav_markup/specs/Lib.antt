@@ -13,3 +13,4 @@ pub mod End
 pub mod Markup
 pub mod Choice
 pub mod Few
+pub mod Stretch

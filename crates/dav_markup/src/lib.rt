@@ -16,4 +16,5 @@ pub mod reference;
 pub mod run;
 pub mod scope;
 pub mod section;
+pub mod stretch;
 pub mod tag;

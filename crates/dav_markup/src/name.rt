@@ -3,7 +3,8 @@ ghost use Rattle.std.specs.List.{list_all};
 ghost use Rattle.dav_doc.specs.Bytes.{in_name as in_name_lem, starts_name as starts_name_lem};
 ghost use Rattle.dav_doc.specs.Names.{is_plain as is_plain_lem, is_name as is_name_lem, prefix_of, local_of, written as written_lem};
 ghost use Rattle.dav_markup.specs.Kind.{kind_in};
-ghost use Rattle.dav_markup.specs.Name.{name_in, GoesBy};
+ghost use Rattle.dav_markup.specs.Name.{name_in, is_begun as is_begun_lem, GoesBy};
+ghost use Rattle.dav_markup.specs.Stretch.{longer_by};
 
 use crate::kind::{ByteKind, kind_of};
 use dav_text::{Blob, Memory};
@@ -34,6 +35,15 @@ fn grown(bytes: Blob, byte: u8) -> Result<Blob, Memory>
     Ok(Blob::from_vec(longer))
 }
 
+/// The bytes and more of them.
+fn grown_by(bytes: Blob, more: &[u8]) -> Result<Blob, Memory>
+    ensures { IfOk result (λ b. b ≡ bytes ++ more.now) }
+{
+    let mut longer = bytes.into_vec();
+    longer.extend_from_slice(more)?;
+    Ok(Blob::from_vec(longer))
+}
+
 /// Whether a name can begin with the byte.
 fn starts_name(byte: u8) -> bool
     ensures { result ≡ starts_name_lem byte }
@@ -45,7 +55,7 @@ fn starts_name(byte: u8) -> bool
 }
 
 /// Whether a name can go on with the byte.
-fn in_name(byte: u8) -> bool
+pub(crate) fn in_name(byte: u8) -> bool
     ensures { result ≡ in_name_lem byte }
 {
     match kind_of(byte) {
@@ -116,6 +126,30 @@ impl Name {
         match self {
             Name::Plain(local) => behind_plain(alloc, local, kind, byte),
             Name::Qualified { prefix, local } => behind_colon(prefix, local, kind, byte),
+        }
+    }
+
+    /// Whether the next byte is not the first one of a part of it, so that any byte of a name goes on
+    /// with it.
+    pub fn is_begun(&self) -> bool
+        ensures { result ≡ is_begun_lem (name_in self.now) }
+    {
+        match self {
+            Name::Plain(_) => true,
+            Name::Qualified { prefix: _, local } => !local.is_empty(),
+        }
+    }
+
+    /// The name with these bytes more.
+    pub fn longer(self, bytes: &[u8]) -> Result<Name, Memory>
+        ensures { IfOk result (λ name. name_in name ≡ longer_by (name_in self) bytes.now) }
+    {
+        match self {
+            Name::Plain(local) => Ok(Name::Plain(grown_by(local, bytes)?)),
+            Name::Qualified { prefix, local } => {
+                let local = grown_by(local, bytes)?;
+                Ok(Name::Qualified { prefix, local })
+            }
         }
     }
 

@@ -18,7 +18,7 @@ use std::alloc::{AllocError, Global};
 pub(crate) const URL: &str = "http://h/";
 
 /// The path of a text.
-fn path_at(alloc: Global, text: &str, fault: RowFault) -> Result<Path, RowFault>
+pub(crate) fn path_at(alloc: Global, text: &str, fault: RowFault) -> Result<Path, RowFault>
     ensures { IfOk result (λ path. IsPath path) }
 {
     match Path::read(alloc, text) {
@@ -210,12 +210,12 @@ pub(crate) fn tell_left<D: Disk>(desk: &Desk<D>, out: &mut String) -> Result<(),
     let queued = desk.queued_count();
     let lost = desk.lost_count();
     let steps = desk.trace().steps.len();
-    let refusals = desk
-        .trace()
-        .steps
-        .iter()
-        .filter(|step| matches!(&step.mark, Mark::Refused(_)))
-        .count();
+    let mut refusals = 0u32;
+    for step in desk.trace().steps.as_slice() {
+        if let Mark::Refused(_) = &step.mark {
+            refusals = refusals.saturating_add(1);
+        }
+    }
     writeln!(
         out,
         "queued {queued}, lost {lost}, steps {steps}, refused {refusals}"

@@ -10,6 +10,7 @@ use crate::heads::{outcome_of_head, outcome_of_kept, outcome_of_size_line, outco
 use crate::jobs::outcome_of_job;
 use crate::listings::outcome_of_listing;
 use crate::locals::outcome_of_locals;
+use crate::locks::{outcome_of_locks, outcome_of_timeout};
 use crate::logins::{
     outcome_of_challenge, outcome_of_info, outcome_of_login, outcome_of_server_proof,
 };
@@ -111,6 +112,8 @@ pub fn outcome_of(alloc: Global, case: &Case<'_>) -> Result<Vec<u8>, RowFault> {
         "wire" => outcome_of_wire(alloc, case),
         "numbers" => outcome_of_numbers(alloc, case),
         "locals" => outcome_of_locals(alloc, case),
+        "locks" => outcome_of_locks(alloc, case),
+        "timeout" => outcome_of_timeout(alloc, case),
         "disk" => outcome_of_disk(alloc, case),
         "desk" => outcome_of_desk(alloc, case),
         "job" => outcome_of_job(alloc, case),

@@ -13,6 +13,7 @@ mod kinds;
 mod lent;
 mod listings;
 mod locals;
+mod locks;
 mod logins;
 mod numbers;
 mod paths;

@@ -8,7 +8,7 @@ use crate::devices::{call_of, calls_of};
 use crate::jobs::{tell_sent, wire_of};
 use dav_desk::Desk;
 use dav_disk::{Disk, MemDisk};
-use dav_edge::Wire;
+use dav_edge::{MemWire, Wire};
 use dav_script::RowFault;
 use dav_upload::{Did, UploadFault, turn};
 use dav_uri::Base;
@@ -65,20 +65,56 @@ fn turn_lines<V: Wire, D: Disk>(
     Ok(())
 }
 
+/// Makes the asks and turns of all lines over a desk, and appends what is left.
+fn turn_and_tell<V: Wire, D: Disk>(
+    alloc: Global,
+    base: &Base,
+    wire: &mut V,
+    desk: &mut Desk<D>,
+    case: &Case<'_>,
+    out: &mut String,
+) -> Result<(), RowFault>
+    requires { IsReadied D.honest D.moment D.seen D.past desk.old }
+{
+    turn_lines(alloc, base, wire, desk, case, out)?;
+    tell_left(desk, out)?;
+    Ok(())
+}
+
+/// The same over a fresh disk.
+fn turn_over_a_disk<V: Wire>(
+    alloc: Global,
+    base: &Base,
+    wire: &mut V,
+    case: &Case<'_>,
+    out: &mut String,
+) -> Result<(), RowFault> {
+    match Desk::start(alloc, MemDisk::new(alloc, Vec::new(alloc)), URL) {
+        Ok(mut desk) => turn_and_tell(alloc, base, wire, &mut desk, case, out),
+        Err(_) => Err(RowFault::Memory),
+    }
+}
+
+/// The same over the wire of a base, and what was sent on it.
+fn turn_over_a_wire(
+    alloc: Global,
+    wire: &mut MemWire,
+    case: &Case<'_>,
+    out: &mut String,
+) -> Result<(), RowFault> {
+    match Base::read(alloc, URL) {
+        Ok(base) => turn_over_a_disk(alloc, &base, wire, case, out)?,
+        Err(_) => return Err(RowFault::Memory),
+    }
+    tell_sent(alloc, wire, out)?;
+    Ok(())
+}
+
 /// What comes of asks and turns over a fresh disk and a server that gives the bytes of the setting `reply`, what is left then, and what
 /// was sent.
 pub fn outcome_of_turn(alloc: Global, case: &Case<'_>) -> Result<Vec<u8>, RowFault> {
-    let Ok(base) = Base::read(alloc, URL) else {
-        return Err(RowFault::Memory);
-    };
     let mut wire = wire_of(alloc, case.bytes_or_none("reply"))?;
-    let disk = MemDisk::new(alloc, Vec::new(alloc));
     let mut out = String::new(alloc);
-    let Ok(mut desk) = Desk::start(alloc, disk, URL) else {
-        return Err(RowFault::Memory);
-    };
-    turn_lines(alloc, &base, &mut wire, &mut desk, case, &mut out)?;
-    tell_left(&desk, &mut out)?;
-    tell_sent(alloc, &wire, &mut out)?;
+    turn_over_a_wire(alloc, &mut wire, case, &mut out)?;
     Ok(out.into_bytes())
 }

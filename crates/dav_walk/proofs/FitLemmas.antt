@@ -1,9 +1,9 @@
 -- What a walk without a fault has lent fits.
-use Rattle.std.proofs.Common.{◌≡◌, ℕ, ◌+◌, ◌≤◌, Bool, true, false, List, [], ◌∷◌, ◌++◌, length, length-append, refl, ap, sym, ◌∙◌, subst, Option, Some, None, arith}
+use Rattle.std.proofs.Common.{◌≡◌, ℕ, ◌+◌, ◌≤◌, Bool, true, false, List, [], ◌∷◌, ◌++◌, length, length-append, refl, ap, sym, subst, Option, Some, None, arith}
 use Rattle.std.specs.Prelude.{◌==◌, ◌&&◌, not, nat_le, if◌then◌else◌}
 use Rattle.std.proofs.lemmas.Bool.{leb-true}
 use Rattle.dav_doc.specs.Document.{Event, Start, Char, End}
-use Rattle.dav_text.specs.declared.which.Which.TheVariants.{Nodes, Held}
+use Rattle.dav_text.specs.declared.which.Which.TheVariants.{Nodes}
 use Rattle.dav_walk.specs.declared.root.Root.{Root}
 use Rattle.dav_walk.specs.declared.root.Root.TheVariants.{Multistatus, Prop}
 use Rattle.dav_walk.specs.declared.fault.WalkFault.{WalkFault}

@@ -1,13 +1,12 @@
 -- A response that passes a limit while it comes, and the same response of the whole document.
-use Rattle.std.proofs.Common.{◌≡◌, ℕ, zero, suc, ◌+◌, ◌<◌, ◌≤◌, ◌⊎◌, inl, inr, Bool, true, false, List, [], ◌∷◌, ◌++◌, length, length-append, refl, ap, sym, ◌∙◌, append_assoc, Option, Some, None, arith}
-use Rattle.std.specs.Prelude.{◌==◌, ◌&&◌, ◌||◌, not, map, nat_le, if◌then◌else◌}
+use Rattle.std.proofs.Common.{◌≡◌, ℕ, zero, suc, ◌+◌, ◌<◌, ◌≤◌, ◌⊎◌, inl, inr, Bool, true, false, List, [], ◌∷◌, ◌++◌, length, length-append, refl, ap, sym, ◌∙◌, append_assoc, Some, None, arith}
+use Rattle.std.specs.Prelude.{◌==◌, ◌&&◌, not, map, nat_le, if◌then◌else◌}
 use Rattle.std.proofs.lemmas.Bool.{leb-false}
 use Rattle.dav_doc.specs.Document.{Forest, Event, Start, Char, End, IsDocument, events}
 use Rattle.dav_text.specs.declared.which.Which.{Which}
 use Rattle.dav_text.specs.declared.which.Which.TheVariants.{Nodes, Held}
 use Rattle.dav_walk.specs.declared.root.Root.{Root}
 use Rattle.dav_walk.specs.declared.root.Root.TheVariants.{Multistatus, Prop}
-use Rattle.dav_walk.specs.declared.fault.WalkFault.{WalkFault}
 use Rattle.dav_walk.specs.declared.fault.WalkFault.TheVariants as faults
 use Rattle.dav_walk.specs.Tree.{Item, is_dav, weight, responses}
 use Rattle.dav_walk.specs.Lending.{Response}
@@ -19,7 +18,7 @@ use Rattle.dav_walk.specs.SoFar.{Exceeds, HasLarge}
 use Rattle.dav_walk.proofs.TreeLemmas.{within, after-append, given-append}
 use Rattle.dav_walk.proofs.WeightLemmas.{held_at, helds, helds-append, as_many}
 use Rattle.dav_walk.proofs.WalkerLemmas.{gives_tree}
-use Rattle.dav_walk.proofs.SoFarLemmas.{Fell, fell, gathers_first, is_at}
+use Rattle.dav_walk.proofs.SoFarLemmas.{fell, gathers_first, is_at}
 
 pub length_with_text : (place : ℕ) (text : List ℕ) (xs : List Item) → length (with_text place text xs) ≡ length xs
 length_with_text place text [] = refl

@@ -1,5 +1,5 @@
 -- A walk in the middle of a piece.
-use Rattle.std.proofs.Common.{◌≡◌, ℕ, ◌+◌, ◌-◌, ◌<◌, ◌≤◌, ◌⊎◌, inl, inr, Bool, true, false, List, [], ◌∷◌, ◌++◌, length, length-append, length-drop, take, drop, take_all, refl, ap, sym, ◌∙◌, append_assoc, append-nil, subst, Some, None, arith}
+use Rattle.std.proofs.Common.{◌≡◌, ℕ, ◌+◌, ◌-◌, ◌<◌, Bool, true, false, List, [], ◌∷◌, ◌++◌, length, length-append, length-drop, take, drop, take_all, refl, ap, sym, ◌∙◌, append_assoc, append-nil, subst, arith}
 use Rattle.std.proofs.lemmas.List.{take-append-drop, length-take}
 use Rattle.std.specs.Prelude.{not}
 use Rattle.dav_doc.specs.Document.{Event}
@@ -17,7 +17,7 @@ use Rattle.dav_walk.specs.declared.fault.WalkFault.TheVariants as faults
 use Rattle.dav_walk.specs.Lending.{Response, LentAll, LentToStop}
 use Rattle.dav_walk.specs.Gathering as gathering
 use Rattle.dav_walk.specs.Gathering.{Gathering, Goes, Walked, between, walk}
-use Rattle.dav_walk.specs.Walking.{IsReading, Stands, GoesOn, StopsIn, GathersTo, Refuses, XmlFails, GatheringFails, Ends, starved, refused, unfit, of_xml}
+use Rattle.dav_walk.specs.Walking.{IsReading, Stands, GoesOn, StopsIn, Ends, starved, refused, unfit, of_xml}
 use Rattle.dav_walk.proofs.WalkLemmas.{walk_then, LentAll-append, LentToStop-append}
 
 -- the front of the piece is taken
@@ -79,6 +79,7 @@ midway_on lends root scan next g h text piece rest lent old mid new fed m f o l 
 nothing_lent : (lent : Lent) → is_ready lent ≡ false → (lent_in lent ≡ []) × (later_in lent ≡ [])
 nothing_lent lents.Nothing e = (refl, refl)
 nothing_lent (lents.Chars few) e = cc
+nothing_lent (lents.Run bytes) e = cc
 nothing_lent (lents.Start depth ns name empty) e = cc
 nothing_lent (lents.End depth) e = cc
 

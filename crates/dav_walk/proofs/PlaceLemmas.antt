@@ -1,13 +1,13 @@
 -- The responses of a document end where its text says.
-use Rattle.std.proofs.Common.{◌≡◌, ℕ, ◌+◌, Bool, true, false, ◌&&◌, List, [], ◌∷◌, ◌++◌, length, length-append, refl, ap, sym, ◌∙◌, append_assoc, append-nil, zero-add, subst, arith, Option, Some, None, inl, inr}
+use Rattle.std.proofs.Common.{◌≡◌, ℕ, ◌+◌, Bool, true, false, ◌&&◌, List, [], ◌∷◌, ◌++◌, length, length-append, refl, ap, sym, ◌∙◌, append_assoc, append-nil, zero-add, subst, arith, Some, inl, inr}
 use Rattle.std.specs.Prelude.{◌==◌, ◌⊎◌, nat_le, codes, if◌then◌else◌}
 use Rattle.std.proofs.lemmas.Bool.{eqb-true}
-use Rattle.dav_doc.specs.Bytes.{Kind, Less, Ampersand, Blank, Greater, kind, text_kind, blank, blanks, begins_greater, begins_bracket, begins_end}
+use Rattle.dav_doc.specs.Bytes.{Kind, Less, Ampersand, Blank, Greater, kind, text_kind, blanks, begins_greater, begins_bracket, begins_end}
 use Rattle.dav_doc.specs.Names.{written, local_of, Binding, declared, resolved, base}
 use Rattle.dav_doc.specs.References.{stands_for}
 use Rattle.dav_doc.specs.Document as document
 use Rattle.dav_doc.specs.Document.{Forest, Nil, Element, Event, Start, Char, End, said, events, Tag, IsTag, tag_text, start_tag, empty_tag, end_tag, section_open, SectionRest, Content, nothing, text, line_end, lone_return, reference, comment, instruction, section, empty, element, Around, ended, space, remark, advice, alone, full, begins_feed, IsDeclaration, IsDocument}
-use Rattle.dav_doc.specs.Machine.{Open, Brackets, Zero, One, Two, Place, First, Before, Below, State, Begin, MarkSecond, MarkThird, Return, Opening, Outside, Text, Markup, InReference, InName, InTag, EmptyTag, EndBlanks, Move, Bad, To, at, scope_of, chars, begin_step, outside_step, epilog_step, bracket_by, brackets, ends_section, text_by, text_step, end_next, letter_step, on, slashed, step, move_on, run}
+use Rattle.dav_doc.specs.Machine.{Open, Brackets, Zero, One, Two, Place, First, Before, Below, State, Begin, MarkSecond, MarkThird, Return, Opening, Outside, Text, Markup, InReference, InName, InTag, EmptyTag, EndBlanks, To, at, scope_of, chars, begin_step, outside_step, epilog_step, bracket_by, brackets, ends_section, text_by, text_step, end_next, letter_step, on, slashed, step, run}
 use Rattle.dav_doc.specs.Names.{Plain}
 use Rattle.dav_doc.proofs.Meaning.{Free}
 use Rattle.dav_doc.proofs.KindFacts.{IsKind, is_kind}
@@ -19,11 +19,11 @@ use Rattle.dav_walk.specs.declared.root.Root.{Root}
 use Rattle.dav_walk.specs.declared.root.Root.TheVariants.{Multistatus, Prop}
 use Rattle.dav_walk.specs.Tree.{Item, is_dav, direct, items, whole, among, responses}
 use Rattle.dav_walk.specs.Lending.{Response}
-use Rattle.dav_walk.specs.Gathering.{Opened, Gathering, between, with_start, next}
-use Rattle.dav_walk.specs.Whole.{after, given, numbered}
+use Rattle.dav_walk.specs.Gathering.{Opened, between, with_start, next}
+use Rattle.dav_walk.specs.Whole.{after, given}
 use Rattle.dav_walk.specs.Places.{Placed, placed_by, placed_among, placed_in, placed, ended_in, all_placed}
-use Rattle.dav_walk.proofs.TreeLemmas.{within, Gathered, gathers_all, Gives, gives_child}
-use Rattle.dav_walk.proofs.Timing.{Timed, stamped, timed_by, timed, bare, bare-append, bare_stamped, split_at, Told, told, told-append, told_none, responses_of, ended_among, quiet, quiet_end, ended_front}
+use Rattle.dav_walk.proofs.TreeLemmas.{within, gathers_all, gives_child}
+use Rattle.dav_walk.proofs.Timing.{Timed, stamped, timed_by, timed, bare, bare-append, bare_stamped, split_at, Told, told, told-append, told_none, ended_among, quiet, quiet_end, ended_front}
 
 -- these responses in a row, the first of which has that number before it
 abbrev rows : ℕ → List Placed → List Told

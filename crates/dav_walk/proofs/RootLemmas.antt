@@ -1,11 +1,10 @@
 -- A document whose root isn't the one that is asked for.
-use Rattle.std.proofs.Common.{◌≡◌, ℕ, ◌+◌, ◌<◌, ◌⊎◌, inl, inr, Bool, true, false, List, [], ◌∷◌, ◌++◌, refl, ap, sym, subst, ◌∙◌, append_assoc, append-nil, Option, Some, None, arith}
+use Rattle.std.proofs.Common.{◌≡◌, ℕ, ◌+◌, ◌<◌, ◌⊎◌, inl, inr, Bool, true, false, List, [], ◌∷◌, ◌++◌, refl, ap, sym, subst, ◌∙◌, append_assoc, append-nil, Some, None, arith}
 use Rattle.std.specs.Prelude.{◌==◌, ◌&&◌, not, nat_le, length, if◌then◌else◌}
 use Rattle.dav_doc.specs.Document as document
 use Rattle.dav_doc.specs.Document.{Forest, Nil, Chars, Element, Event, Start, Char, End, IsDocument, events, alone, full}
 use Rattle.dav_doc.specs.Machine.{State, Begin, run}
 use Rattle.dav_doc.specs.Names.{local_of}
-use Rattle.dav_xml.specs.Events.{later_in}
 use Rattle.dav_xml.specs.Reading.{begin}
 use Rattle.dav_xml.proofs.LawLemmas.{read_first}
 use Rattle.dav_xml.proofs.ReadLemmas.{reads_run}
@@ -17,13 +16,13 @@ use Rattle.dav_walk.specs.declared.fault.WalkFault.TheVariants as faults
 use Rattle.dav_walk.specs.Tree.{Item, is_dav}
 use Rattle.dav_walk.specs.Lending.{Response}
 use Rattle.dav_walk.specs.Reading.{has_href, has_codes}
-use Rattle.dav_walk.specs.Gathering.{Gathering, Opened, Walked, Goes, Fails, between, root_name, is_kept, with_text, owed_after, next, ended, fault_of, count_fault, byte_fault, end_fault, response_fault, walk_by, walk}
+use Rattle.dav_walk.specs.Gathering.{Gathering, Opened, Walked, Goes, Fails, between, root_name, is_kept, with_text, owed_after, next, fault_of, count_fault, byte_fault, end_fault, response_fault, walk_by, walk}
 use Rattle.dav_walk.specs.Whole.{after, given}
 use Rattle.dav_walk.specs.Walking.{GathersTo}
 use Rattle.dav_walk.specs.WalkerView.{Walking, HasWalked}
 use Rattle.dav_walk.specs.SoFar.{HasOtherRoot}
 use Rattle.dav_walk.proofs.PropsLemmas.{differs}
-use Rattle.dav_walk.proofs.SoFarLemmas.{Fell, fell, gathers_first, after_root}
+use Rattle.dav_walk.proofs.SoFarLemmas.{fell, gathers_first, after_root}
 
 -- a document is one element
 record OneRoot (tree : Forest) : Type 0 where

@@ -19,7 +19,7 @@ use Rattle.dav_walk.specs.Reading.{has_href, has_codes}
 use Rattle.dav_walk.specs.Gathering as gathering
 use Rattle.dav_walk.specs.Gathering.{Gathering, Opened, Goes, Fails, Walked, between, root_name, is_kept, with_start, with_byte, with_text, with_end, next, ended, ended_by, fault_of, start_fault, byte_fault, end_fault, response_fault, walk_by, walk}
 use Rattle.dav_walk.specs.Whole.{after, given, numbered}
-use Rattle.dav_walk.specs.Walking.{Stands, GathersTo, Refuses}
+use Rattle.dav_walk.specs.Walking.{GathersTo, Refuses}
 use Rattle.dav_walk.specs.WalkerView.{Walking, HasWalked, HasStopped}
 use Rattle.dav_walk.specs.Places.{placed, ended_in}
 use Rattle.dav_walk.specs.SoFar.{AreFirst, StandsBehind, LacksHref, LacksStatus}

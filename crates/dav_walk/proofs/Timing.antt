@@ -1,10 +1,9 @@
 -- Events with the number of bytes up to the one that gave them, and the responses that they end.
-use Rattle.std.proofs.Common.{◌≡◌, ℕ, zero, suc, ◌+◌, ◌≤◌, ◌<◌, Bool, true, false, List, [], ◌∷◌, ◌++◌, length, length-append, refl, ap, sym, ◌∙◌, append_assoc, append-nil, add-zero, Option, Some, None, arith}
+use Rattle.std.proofs.Common.{◌≡◌, ℕ, ◌+◌, ◌≤◌, ◌<◌, Bool, true, false, List, [], ◌∷◌, ◌++◌, length, refl, ap, sym, ◌∙◌, append_assoc, append-nil, add-zero, Option, Some, None, arith}
 use Rattle.std.specs.Prelude.{nat_le, if◌then◌else◌}
-use Rattle.dav_doc.specs.Document.{Event, Start, Char, End}
+use Rattle.dav_doc.specs.Document.{Event}
 use Rattle.dav_doc.specs.Machine.{State, Move, Bad, To, step, Ran, gives, move_on, run}
 use Rattle.dav_doc.proofs.Runs.{Goes}
-use Rattle.dav_walk.specs.Tree.{Item}
 use Rattle.dav_walk.specs.Lending.{Response}
 use Rattle.dav_walk.specs.Gathering.{Gathering, next, ended}
 use Rattle.dav_walk.specs.Whole.{after, given}

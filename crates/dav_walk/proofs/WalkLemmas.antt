@@ -1,8 +1,8 @@
 -- Walks over events in a row.
-use Rattle.std.proofs.Common.{◌≡◌, ℕ, List, [], ◌∷◌, ◌++◌, refl, ap, sym, ◌∙◌, Option, Some, None, append_assoc, append-nil, subst}
+use Rattle.std.proofs.Common.{◌≡◌, List, [], ◌∷◌, ◌++◌, refl, ap, sym, ◌∙◌, Option, Some, None, append_assoc, subst}
 use Rattle.dav_doc.specs.Document.{Event}
 use Rattle.dav_walk.specs.declared.handler.Next.{Next}
-use Rattle.dav_walk.specs.declared.handler.Next.TheVariants.{Go, Stop}
+use Rattle.dav_walk.specs.declared.handler.Next.TheVariants.{Go}
 use Rattle.dav_walk.specs.declared.fault.WalkFault.{WalkFault}
 use Rattle.dav_walk.specs.Lending.{Response, LentAll, LentToStop}
 use Rattle.dav_walk.specs.Gathering.{Gathering, Outcome, Goes, Fails, Walked, next, ended, fault_of, walk_by, walk}

@@ -10,7 +10,6 @@ use Rattle.dav_xml.specs.Read.{HasRead}
 use Rattle.dav_xml.specs.Reading.{Reading}
 use Rattle.dav_walk.specs.declared.root.Root.{Root}
 use Rattle.dav_walk.specs.declared.handler.Next.{Next}
-use Rattle.dav_walk.specs.declared.walker.State.{State}
 use Rattle.dav_walk.specs.declared.walker.State.TheVariants.{Going, Stopped, Failed}
 use Rattle.dav_walk.specs.declared.walker.Walk.{Walk}
 use Rattle.dav_walk.specs.declared.walker.Walk.TheVariants as walks
@@ -18,9 +17,9 @@ use Rattle.dav_walk.specs.declared.fault.WalkFault.{WalkFault}
 use Rattle.dav_walk.specs.Tree.{responses}
 use Rattle.dav_walk.specs.Lending.{Response}
 use Rattle.dav_walk.specs.Gathering.{Gathering, Opened, Walked, Goes, between, is_kept, with_start, with_byte, with_end, ended_by, next, ended, walk}
-use Rattle.dav_walk.specs.Whole.{after, given, numbered}
-use Rattle.dav_walk.specs.Walking.{Stands, GoesOn, StopsIn}
-use Rattle.dav_walk.specs.WalkerView.{Walking, HasWalked, HasStopped, Takes, StopsAt, Finishes}
+use Rattle.dav_walk.specs.Whole.{after, given}
+use Rattle.dav_walk.specs.Walking.{GoesOn, StopsIn}
+use Rattle.dav_walk.specs.WalkerView.{Walking, Takes, StopsAt, Finishes}
 use Rattle.dav_walk.proofs.TreeLemmas.{Gives, gives_responses}
 use Rattle.dav_walk.proofs.WalkLemmas.{walk_given}
 

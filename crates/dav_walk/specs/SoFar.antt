@@ -1,5 +1,5 @@
 -- What a walk tells of the responses of a whole document, of which only a front has come.
-use Rattle.std.specs.Prelude.{◌≡◌, ℕ, ◌<◌, ◌≤◌, ◌⊎◌, Bool, true, false, List, [], ◌∷◌, ◌++◌, length}
+use Rattle.std.specs.Prelude.{◌≡◌, ℕ, ◌<◌, ◌≤◌, ◌⊎◌, true, false, List, [], ◌∷◌, ◌++◌, length}
 use Rattle.dav_doc.specs.Document.{Forest, Nil, Element}
 use Rattle.dav_text.specs.declared.which.Which.{Which}
 use Rattle.dav_text.specs.declared.which.Which.TheVariants.{Nodes, Held}

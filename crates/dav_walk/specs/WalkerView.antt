@@ -1,5 +1,5 @@
 -- A walker as contracts see it, and what it has done with a text.
-use Rattle.std.specs.Prelude.{◌≡◌, ℕ, List, [], ◌∷◌, ◌++◌, length}
+use Rattle.std.specs.Prelude.{◌≡◌, ℕ, List, ◌++◌, length}
 use Rattle.dav_doc.specs.Document.{Event, Forest, IsDocument}
 use Rattle.dav_xml.specs.declared.scan.Scan.{Scan}
 use Rattle.dav_xml.specs.Read.{HasRead}
@@ -7,13 +7,11 @@ use Rattle.dav_walk.specs.declared.root.Root.{Root}
 use Rattle.dav_walk.specs.declared.handler.Next.{Next}
 use Rattle.dav_walk.specs.declared.walker.State.{State}
 use Rattle.dav_walk.specs.declared.walker.State.TheVariants.{Going, Stopped}
-use Rattle.dav_walk.specs.declared.collector.Collector.{Collector}
 use Rattle.dav_walk.specs.Tree.{responses}
 use Rattle.dav_walk.specs.Whole.{numbered}
 use Rattle.dav_walk.specs.Lending.{Response, LentAll, LentToStop}
 use Rattle.dav_walk.specs.Gathering.{Gathering, between, walk, Goes}
-use Rattle.dav_walk.specs.Collecting.{gathering_of}
-use Rattle.dav_walk.specs.Walking.{IsReading, Stands}
+use Rattle.dav_walk.specs.Walking.{Stands}
 
 -- the root that is expected, the scanner, what is gathered, and whether the walk goes on
 pub record Walking : Type 0 where

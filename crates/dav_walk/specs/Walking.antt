@@ -1,5 +1,5 @@
 -- What a walker has taken, and what it lends.
-use Rattle.std.specs.Prelude.{◌≡◌, ℕ, ◌⊎◌, List, [], ◌∷◌, ◌++◌, length, Some}
+use Rattle.std.specs.Prelude.{◌≡◌, ℕ, List, [], ◌∷◌, ◌++◌, Some}
 use Rattle.dav_doc.specs.Document.{Event}
 use Rattle.dav_xml.specs.declared.scan.Scan.{Scan}
 use Rattle.dav_xml.specs.declared.fault.XmlFault.{XmlFault}

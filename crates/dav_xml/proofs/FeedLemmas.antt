@@ -1,8 +1,9 @@
 -- A piece taken byte by byte.
-use Rattle.std.proofs.Common.{◌≡◌, ℕ, ◌+◌, ◌<◌, ◌≤◌, Bool, true, false, List, [], ◌∷◌, ◌++◌, length, take, drop, get_or, refl, ap, sym, ◌∙◌, subst, append_assoc, add-one, add-zero, add_assoc, arith, Some, None, inl, inr}
+use Rattle.std.proofs.Common.{◌≡◌, ℕ, ◌+◌, ◌<◌, ◌≤◌, Bool, true, false, List, [], ◌∷◌, ◌++◌, length, take, drop, get_or, refl, ap, sym, ◌∙◌, subst, append_assoc, add-one, add-zero, add_assoc, arith, ◌-◌, length-drop, Some, None, inl, inr}
 use Rattle.std.specs.Prelude.{◌⊎◌, ◌&&◌, ◌==◌}
-use Rattle.std.proofs.lemmas.List.{append-nil, take_more, take_all, take-append-drop}
-use Rattle.std.proofs.Math.Seq.{drop-cons}
+use Rattle.std.proofs.lemmas.List.{append-nil, take-append-drop, get_or-drop}
+use Rattle.std.proofs.Math.Seq.{drop-cons, take-add}
+use Rattle.dav_xml.proofs.PieceLemmas.{rest_of}
 use Rattle.dav_doc.specs.Characters as characters
 use Rattle.dav_doc.specs.Characters.{Whole, owed_by}
 use Rattle.dav_doc.specs.Document.{Event, Forest, IsDocument, events}
@@ -49,10 +50,6 @@ lends old new text given more h p o w s d a f e = record {
 pub given_now : (given : List Event) (lent : Lent) → later_in lent ≡ [] → given ++ later_in lent ≡ given
 given_now given lent h = ap (λ z. given ++ z) h ∙ append-nil given
 
--- a front of the piece with one byte more
-pub front_byte : (text piece : List ℕ) (i : ℕ) → i < length piece → (text ++ take i piece) ++ (get_or piece i 0 ∷ []) ≡ text ++ take (i + 1) piece
-front_byte text piece i h = append_assoc text (take i piece) (get_or piece i 0 ∷ []) ∙ ap (λ z. text ++ z) (sym (take_more piece i 0 h))
-
 -- the byte at a place of the piece is the first with a fault
 pub stops_at : (text piece : List ℕ) (given : List Event) (i b : ℕ) (fault : XmlFault) → i < length piece → b ≡ get_or piece i 0 → Fails (text ++ take i piece) given b fault → Stops text given piece fault
 stops_at text piece given i b fault h e f = record {
@@ -68,6 +65,7 @@ stops_at text piece given i b fault h e f = record {
 pub waits : (lent : Lent) → is_ready lent ≡ false → lent ≡ lents.Nothing
 waits lents.Nothing h = refl
 waits (lents.Chars few) h = absurd cc
+waits (lents.Run bytes) h = absurd cc
 waits (lents.Start depth ns name empty) h = absurd cc
 waits (lents.End depth) h = absurd cc
 
@@ -124,64 +122,84 @@ over_cut scan text given h cut tree is =
 -- what holds behind so many bytes of the piece, none of which gave an event
 pub record HasFed (old now : Scan) (piece : List ℕ) (i : ℕ) : Type 0 where
   pub at : now.at ≡ old.at + i
-  pub later : later_in now.lent ≡ []
+  pub within : i ≤ length piece
+  pub quiet : now.lent ≡ lents.Nothing
   pub read : (text : List ℕ) (given : List Event) → HasRead old text given → HasRead now (text ++ take i piece) given
 
-pub fed_none : (scan : Scan) (piece : List ℕ) → later_in scan.lent ≡ [] → HasFed scan scan piece 0
-fed_none scan piece l = record {
-  at = sym (add-zero scan.at);
-  later = l;
-  read = λ text given h. rw append-nil h;
+pub fed_none : (old now : Scan) (piece : List ℕ) → later_in old.lent ≡ []
+    → now.position ≡ old.position → now.opens.items ≡ old.opens.items → now.owed ≡ old.owed → now.size ≡ old.size → now.depth ≡ old.depth → now.at ≡ old.at → now.fault ≡ old.fault
+    → now.lent ≡ lents.Nothing → HasFed old now piece 0
+fed_none old now piece l p o w s d a f n = record {
+  at = a ∙ sym (add-zero old.at);
+  within = omega arith;
+  quiet = n;
+  read = λ text given h.
+      let k : given ++ later_in old.lent ≡ given ++ later_in now.lent = ap (λ z. given ++ z) (l ∙ sym (ap later_in n)) in
+      rw append-nil (lends old now text given given h p o w s d a f k);
 }
 
--- the next byte gave none
-pub fed_more : (old now new : Scan) (piece : List ℕ) (i b : ℕ) → HasFed old now piece i → i < length piece → b ≡ get_or piece i 0 → new.at ≡ now.at + 1
-    → ((text : List ℕ) (given : List Event) → HasRead now text given → later_in now.lent ≡ [] → HasRead new (text ++ (b ∷ [])) (given ++ lent_in new.lent))
-    → is_ready new.lent ≡ false → HasFed old new piece (i + 1)
-fed_more old now new piece i b f h e a t r =
+-- what is left of the piece
+abbrev pub left_of : List ℕ → ℕ → List ℕ
+left_of piece i = take (length piece - i) (drop i piece)
+
+pub left_length : (piece : List ℕ) (i : ℕ) → length (left_of piece i) ≡ length piece - i
+left_length piece i = ap length (rest_of piece i) ∙ length-drop i piece
+
+-- a front of the piece with more bytes
+more_taken : (text piece : List ℕ) (i n : ℕ) → (text ++ take i piece) ++ take n (left_of piece i) ≡ text ++ take (i + n) piece
+more_taken text piece i n =
+    append_assoc text (take i piece) (take n (left_of piece i)) ∙ ap (λ z. text ++ (take i piece ++ take n z)) (rest_of piece i)
+    ∙ ap (λ z. text ++ z) (sym (take-add i n piece))
+
+-- more bytes are within the piece
+pub more_within : (piece : List ℕ) (i n : ℕ) → i ≤ length piece → n ≤ length (left_of piece i) → i + n ≤ length piece
+more_within piece i n h m = let k : length (left_of piece i) ≡ length piece - i = left_length piece i in omega (arith, h, m, k)
+
+-- the next bytes, which gave no event
+pub fed_more : (old now new : Scan) (piece : List ℕ) (i n : ℕ) → HasFed old now piece i → n ≤ length (left_of piece i) → new.at ≡ now.at + n
+    → ((text : List ℕ) (given : List Event) → HasRead now text given → HasRead new (text ++ take n (left_of piece i)) (given ++ lent_in new.lent))
+    → is_ready new.lent ≡ false → HasFed old new piece (i + n)
+fed_more old now new piece i n f h a t r =
     let w = waits new.lent r in
     record {
-      at = a ∙ ap (λ z. z + 1) f.at ∙ add_assoc old.at i 1;
-      later = ap later_in w;
+      at = a ∙ ap (λ z. z + n) f.at ∙ add_assoc old.at i n;
+      within = more_within piece i n f.within h;
+      quiet = w;
       read = λ text given k.
-          let x : HasRead new ((text ++ take i piece) ++ (b ∷ [])) (given ++ lent_in new.lent) = t (text ++ take i piece) given (f.read text given k) f.later in
-          let p : (text ++ take i piece) ++ (b ∷ []) ≡ text ++ take (i + 1) piece =
-          ap (λ z. (text ++ take i piece) ++ (z ∷ [])) e ∙ front_byte text piece i h in
+          let x = t (text ++ take i piece) given (f.read text given k) in
           let q : given ++ lent_in new.lent ≡ given = ap (λ z. given ++ lent_in z) w ∙ append-nil given in
-          subst (λ (z : List ℕ). HasRead new z given) p (subst (λ (z : List Event). HasRead new ((text ++ take i piece) ++ (b ∷ [])) z) q x);
+          subst (λ (z : List ℕ). HasRead new z given) (more_taken text piece i n)
+          (subst (λ (z : List Event). HasRead new ((text ++ take i piece) ++ take n (left_of piece i)) z) q x);
     }
 
--- the next byte gave one
-pub fed_ready : (old now new : Scan) (text piece : List ℕ) (given : List Event) (i b : ℕ) (fed : Fed) → HasFed old now piece i → i < length piece → b ≡ get_or piece i 0
-    → ((text : List ℕ) (given : List Event) → HasRead now text given → later_in now.lent ≡ [] → HasRead new (text ++ (b ∷ [])) (given ++ lent_in new.lent))
-    → is_ready new.lent ≡ true → fed.used ≡ i + 1 → fed.ready ≡ true → HasRead old text given → Feeds text given piece fed new
-fed_ready old now new text piece given i b fed f h e t r u y k =
-    let x : HasRead new ((text ++ take i piece) ++ (b ∷ [])) (given ++ lent_in new.lent) = t (text ++ take i piece) given (f.read text given k) f.later in
-    let p : (text ++ take i piece) ++ (b ∷ []) ≡ text ++ take fed.used piece =
-    ap (λ z. (text ++ take i piece) ++ (z ∷ [])) e ∙ front_byte text piece i h ∙ ap (λ z. text ++ take z piece) (sym u) in
+-- the next bytes, which gave one
+pub fed_ready : (old now new : Scan) (text piece : List ℕ) (given : List Event) (i n : ℕ) (fed : Fed) → HasFed old now piece i → n ≤ length (left_of piece i)
+    → ((text : List ℕ) (given : List Event) → HasRead now text given → HasRead new (text ++ take n (left_of piece i)) (given ++ lent_in new.lent))
+    → is_ready new.lent ≡ true → fed.used ≡ i + n → fed.ready ≡ true → HasRead old text given → Feeds text given piece fed new
+fed_ready old now new text piece given i n fed f h t r u y k =
+    let x = t (text ++ take i piece) given (f.read text given k) in
+    let p : (text ++ take i piece) ++ take n (left_of piece i) ≡ text ++ take fed.used piece = more_taken text piece i n ∙ ap (λ z. text ++ take z piece) (sym u) in
+    let w = more_within piece i n f.within h in
     record {
-      within = omega (arith, u, h);
+      within = omega (arith, u, w);
       read = subst (λ (z : List ℕ). HasRead new z (given ++ lent_in new.lent)) p x;
       ready = y ∙ sym r;
-      all = λ n. let z : true ≡ false = sym y ∙ n in absurd cc;
+      all = λ z. let q : true ≡ false = sym y ∙ z in absurd cc;
     }
 
 -- no byte is left
-pub fed_all : (old now new : Scan) (text piece : List ℕ) (given : List Event) (i : ℕ) (fed : Fed) → HasFed old now piece i → length piece ≤ i
-    → new.position ≡ now.position → new.opens.items ≡ now.opens.items → new.owed ≡ now.owed → new.size ≡ now.size → new.depth ≡ now.depth → new.at ≡ now.at → new.fault ≡ now.fault
-    → new.lent ≡ lents.Nothing → fed.used ≡ length piece → fed.ready ≡ false → HasRead old text given → Feeds text given piece fed new
-fed_all old now new text piece given i fed f h p o w s d a e n u y k =
-    let x = f.read text given k in
-    let v : given ++ later_in now.lent ≡ (given ++ lent_in new.lent) ++ later_in new.lent =
-    given_now given now.lent f.later ∙ sym (append-nil given) ∙ sym (append-nil (given ++ [])) ∙ ap (λ z. (given ++ lent_in z) ++ later_in z) (sym n) in
-    let r = lends now new (text ++ take i piece) given (given ++ lent_in new.lent) x p o w s d a e v in
-    let q : text ++ take i piece ≡ text ++ take fed.used piece =
-    ap (λ z. text ++ z) (take_all i piece h ∙ sym (take_all (length piece) piece (omega arith))) ∙ ap (λ z. text ++ take z piece) (sym u) in
+pub fed_all : (old now : Scan) (text piece : List ℕ) (given : List Event) (i : ℕ) (fed : Fed) → HasFed old now piece i → length piece ≤ i
+    → fed.used ≡ i → fed.ready ≡ false → HasRead old text given → Feeds text given piece fed now
+fed_all old now text piece given i fed f h u y k =
+    let w = f.within in
+    let q : given ≡ given ++ lent_in now.lent = sym (append-nil given) ∙ ap (λ z. given ++ lent_in z) (sym f.quiet) in
     record {
-      within = omega (arith, u);
-      read = subst (λ (z : List ℕ). HasRead new z (given ++ lent_in new.lent)) q r;
-      ready = y ∙ ap is_ready (sym n);
-      all = λ _. u;
+      within = omega (arith, u, w);
+      read =
+          subst (λ (z : List Event). HasRead now (text ++ take fed.used piece) z) q
+          (subst (λ (z : ℕ). HasRead now (text ++ take z piece) given) (sym u) (f.read text given k));
+      ready = y ∙ ap is_ready (sym f.quiet);
+      all = λ _. omega (arith, u, w, h);
     }
 
 -- the end of an empty element
@@ -212,9 +230,12 @@ by_fault : (text piece : List ℕ) (given : List Event) (i b : ℕ) (fault : Xml
 by_fault text piece given i b fault h e (inl m) = inl m
 by_fault text piece given i b fault h e (inr f) = inr (stops_at text piece given i b fault h e f)
 
+first_left : (piece : List ℕ) (i : ℕ) → get_or (left_of piece i) 0 0 ≡ get_or piece i 0
+first_left piece i = ap (λ z. get_or z 0 0) (rest_of piece i) ∙ get_or-drop i piece 0 0 ∙ ap (λ z. get_or piece z 0) (add-zero i)
+
 -- the next byte met a fault
-pub fed_stops : (old now : Scan) (text piece : List ℕ) (given : List Event) (i b : ℕ) (fault : XmlFault) → HasFed old now piece i → i < length piece → b ≡ get_or piece i 0
-    → ((text : List ℕ) (given : List Event) → HasRead now text given → later_in now.lent ≡ [] → (fault ≡ faults.Memory) ⊎ Fails text given b fault)
+pub fed_stops : (old now : Scan) (text piece : List ℕ) (given : List Event) (i : ℕ) (fault : XmlFault) → HasFed old now piece i → i < length piece
+    → ((text : List ℕ) (given : List Event) → HasRead now text given → (fault ≡ faults.Memory) ⊎ Fails text given (get_or (left_of piece i) 0 0) fault)
     → HasRead old text given → (fault ≡ faults.Memory) ⊎ Stops text given piece fault
-fed_stops old now text piece given i b fault f h e t k =
-    by_fault text piece given i b fault h e (t (text ++ take i piece) given (f.read text given k) f.later)
+fed_stops old now text piece given i fault f h t k =
+    by_fault text piece given i (get_or (left_of piece i) 0 0) fault h (first_left piece i) (t (text ++ take i piece) given (f.read text given k))

@@ -1,5 +1,5 @@
 -- A whole text gathered to a tree.
-use Rattle.std.proofs.Common.{◌≡◌, ℕ, ◌+◌, ◌-◌, ◌<◌, ◌≤◌, ◌⊎◌, inl, inr, Bool, true, false, List, [], ◌∷◌, ◌++◌, length, length-append, take, drop, take_all, refl, ap, sym, ◌∙◌, append_assoc, append-nil, subst, Option, Some, None, arith}
+use Rattle.std.proofs.Common.{◌≡◌, ℕ, ◌+◌, ◌<◌, ◌⊎◌, inl, inr, Bool, true, false, List, [], ◌∷◌, ◌++◌, length, length-append, take, drop, take_all, refl, ap, sym, ◌∙◌, append_assoc, append-nil, subst, Option, Some, None, arith}
 use Rattle.std.proofs.lemmas.List.{take-append-drop}
 use Rattle.std.specs.Prelude.{not}
 use Rattle.dav_doc.specs.Document.{Forest, Event, IsDocument, events}
@@ -12,8 +12,8 @@ use Rattle.dav_xml.specs.declared.fault.XmlFault.TheVariants as faults
 use Rattle.dav_xml.specs.declared.scan.Fed.{Fed}
 use Rattle.dav_xml.specs.declared.scan.Scan.{Scan}
 use Rattle.dav_xml.specs.Events.{lent_in, later_in, is_ready}
-use Rattle.dav_xml.specs.Nodes.{parts, grown, bytes_at, parts_in, parts_from, HasGrown, Gathered, IsCut, Breaks, FirstFault}
-use Rattle.dav_xml.specs.Read.{HasRead, Feeds, Stops, Fails, Why, lent as lent_of}
+use Rattle.dav_xml.specs.Nodes.{parts, grown, bytes_at, parts_in, parts_from, HasGrown, Gathered, Breaks, FirstFault}
+use Rattle.dav_xml.specs.Read.{HasRead, Feeds, Stops, Why, lent as lent_of}
 use Rattle.dav_xml.specs.Reading.{Stand, Reading, Verdict, Refused, Passes, Goes, begin, next, on_verdict, behind, reads}
 use Rattle.dav_xml.proofs.LawLemmas.{bad_never}
 use Rattle.dav_xml.proofs.NodeLemmas.{whole_parts}
@@ -51,6 +51,7 @@ midway_on scan next tree new text rest left fed m f e g = record {
 nothing_lent : (lent : Lent) → is_ready lent ≡ false → (lent_in lent ≡ []) × (later_in lent ≡ [])
 nothing_lent lents.Nothing e = (refl, refl)
 nothing_lent (lents.Chars few) e = cc
+nothing_lent (lents.Run bytes) e = cc
 nothing_lent (lents.Start depth ns name empty) e = cc
 nothing_lent (lents.End depth) e = cc
 

@@ -5,10 +5,12 @@ pub mod TagStepLemmas
 pub mod TakeLemmas
 pub mod TurnLemmas
 pub mod OverLemmas
+pub mod PieceLemmas
 pub mod FeedLemmas
 pub mod ScanLemmas
 pub mod LawLemmas
-pub mod PieceLemmas
 pub mod NodeLemmas
 pub mod GatherLemmas
 pub mod TellingLemmas
+pub mod StretchLemmas
+pub mod AheadLemmas

@@ -1,12 +1,11 @@
 -- The parts of events, and of trees.
-use Rattle.std.proofs.Common.{◌≡◌, ℕ, ◌+◌, ◌-◌, ◌<◌, ◌≤◌, List, [], ◌∷◌, ◌++◌, refl, ap, sym, ◌∙◌, append_assoc, append-nil, subst, arith}
-use Rattle.dav_doc.specs.Document as document
+use Rattle.std.proofs.Common.{◌≡◌, ℕ, ◌+◌, ◌-◌, List, [], ◌∷◌, ◌++◌, refl, ap, sym, ◌∙◌, append_assoc, append-nil, arith}
 use Rattle.dav_doc.specs.Document.{Forest, Event, Nil, Chars, Element, Start, Char, End, events}
 use Rattle.dav_doc.specs.Machine.{chars}
 use Rattle.dav_xml.specs.declared.document.Node.{Node}
 use Rattle.dav_xml.specs.declared.document.Node.TheVariants as nodes
 use Rattle.dav_xml.specs.declared.document.Tree.{Tree}
-use Rattle.dav_xml.specs.Nodes.{Part, Named, Byte, parts, bytes_at, part_in, parts_in, parts_from, depth_from, grown, HasGrown}
+use Rattle.dav_xml.specs.Nodes.{Named, Byte, parts, bytes_at, part_in, parts_in, parts_from, depth_from, HasGrown}
 
 pub parts_append : (d : ℕ) (a b : List Event) → parts_from d (a ++ b) ≡ parts_from d a ++ parts_from (depth_from d a) b
 parts_append d [] b = refl

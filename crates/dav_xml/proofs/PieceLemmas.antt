@@ -18,6 +18,7 @@ ready_true false e = cc
 one_waits : (lent : Lent) → length (later_in lent) ≤ 1
 one_waits lents.Nothing = omega arith
 one_waits (lents.Chars few) = omega arith
+one_waits (lents.Run bytes) = omega arith
 one_waits (lents.Start depth ns name true) = omega arith
 one_waits (lents.Start depth ns name false) = omega arith
 one_waits (lents.End depth) = omega arith

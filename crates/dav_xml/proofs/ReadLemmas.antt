@@ -47,7 +47,7 @@ pub record Went (x : Stand) (o : Option Owed) (m : Move) (y : Stand) (e : List E
   pub owed : o ≡ Some y.owed
   pub move : m ≡ To y.state e
 
-by_limit : (l : Option Which) (z y : Stand) (f e : List Event) → goes_by l z f ≡ Goes y e → (z ≡ y) × (f ≡ e)
+pub by_limit : (l : Option Which) (z y : Stand) (f e : List Event) → goes_by l z f ≡ Goes y e → (z ≡ y) × (f ≡ e)
 by_limit (Some which) z y f e h = let k : Passes which ≡ Goes y e = h in absurd cc
 by_limit None z y f e h = let k : Goes z f ≡ Goes y e = h in (cc, cc)
 

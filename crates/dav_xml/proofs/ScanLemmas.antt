@@ -27,10 +27,10 @@ use Rattle.dav_xml.proofs.FeedLemmas.{given_now}
 use Rattle.dav_xml.proofs.StackLemmas.{stack_length}
 use Rattle.dav_xml.proofs.TakeLemmas.{passes, refuses_character, refuses_byte, taken}
 
-abbrev stand_of : (scan : Scan) (text : List ℕ) (given : List Event) → HasRead scan text given → Stand
+abbrev pub stand_of : (scan : Scan) (text : List ℕ) (given : List Event) → HasRead scan text given → Stand
 stand_of scan text given h = record { state = h.state; owed = owed_in scan.owed; size = scan.size }
 
-read_now : (scan : Scan) (text : List ℕ) (given : List Event) → (h : HasRead scan text given) → later_in scan.lent ≡ []
+pub read_now : (scan : Scan) (text : List ℕ) (given : List Event) → (h : HasRead scan text given) → later_in scan.lent ≡ []
     → reads text begin ≡ Some (record { stand = stand_of scan text given h; events = given })
 read_now scan text given h l = h.read ∙ ap (λ z. Some (record { stand = stand_of scan text given h; events = z })) (given_now given scan.lent l)
 

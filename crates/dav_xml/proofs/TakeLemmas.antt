@@ -95,7 +95,7 @@ section_tag sections.WantsBracket o os = refl
 section_tag (sections.Inside n) o os = refl
 section_tag sections.Return o os = refl
 
-end_tag : (o : machine.Open) (os : List machine.Open) (came left : List ℕ) → is_tag (end_next o os came left) ≡ true
+pub end_tag : (o : machine.Open) (os : List machine.Open) (came left : List ℕ) → is_tag (end_next o os came left) ≡ true
 end_tag o os came [] = refl
 end_tag o os came (c ∷ left) = refl
 

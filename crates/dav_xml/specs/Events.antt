@@ -6,7 +6,7 @@ use Rattle.dav_markup.specs.Few.{few_in}
 use Rattle.dav_xml.specs.declared.event.Event.{Event}
 use Rattle.dav_xml.specs.declared.event.Event.TheVariants as events
 use Rattle.dav_xml.specs.declared.event.Lent.{Lent}
-use Rattle.dav_xml.specs.declared.event.Lent.TheVariants.{Nothing, Chars, Start, End}
+use Rattle.dav_xml.specs.declared.event.Lent.TheVariants.{Nothing, Chars, Run, Start, End}
 
 -- a byte of text is an event of its own
 abbrev pub event_in : Event → List document.Event
@@ -17,6 +17,7 @@ event_in (events.End depth) = document.End depth ∷ []
 abbrev pub lent_in : Lent → List document.Event
 lent_in Nothing = []
 lent_in (Chars few) = chars (few_in few)
+lent_in (Run bytes) = chars bytes
 lent_in (Start depth ns name empty) = document.Start depth ns name ∷ []
 lent_in (End depth) = document.End depth ∷ []
 

@@ -7,3 +7,4 @@ pub mod Read
 pub mod Parts
 pub mod Ending
 pub mod Nodes
+pub mod Ahead

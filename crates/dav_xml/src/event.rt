@@ -29,6 +29,8 @@ pub enum Event<'a> {
 pub(crate) enum Lent {
     Nothing,
     Chars(Few),
+    /// Text that stands for itself.
+    Run(Blob),
     /// Whether the element is empty, so that its end is still to be lent, goes along.
     Start {
         depth: u32,
@@ -48,6 +50,9 @@ impl Lent {
             Lent::Nothing => Event::Chars { bytes: b"" },
             Lent::Chars(few) => Event::Chars {
                 bytes: few.as_slice(),
+            },
+            Lent::Run(bytes) => Event::Chars {
+                bytes: bytes.as_slice(),
             },
             Lent::Start {
                 depth,

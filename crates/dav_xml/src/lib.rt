@@ -5,6 +5,7 @@
 //! open elements, and the limits. `Document` reads a text in one piece.
 #![tactic(auto)]
 
+mod ahead;
 mod content;
 mod document;
 mod end_tag;

@@ -13,7 +13,7 @@ const DEPTH: u32 = 32;
 const ATTRIBUTES: usize = 64;
 
 /// The bytes of a tag at most.
-const TAG: u32 = 65_536;
+pub(crate) const TAG: u32 = 65_536;
 
 /// Whether a tag of this size has no room for one more byte.
 fn tag_limit(size: u32) -> Option<Which>

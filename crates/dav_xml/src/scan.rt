@@ -1,12 +1,15 @@
-ghost use Rattle.std.specs.Prelude.{◌≡◌, ◌+◌, ◌<◌, ◌^◌, ◌⊎◌, ◌∷◌, [], ◌++◌, List, ℕ, length, Some, Err, IfOk, IfErr};
+ghost use Rattle.std.specs.Prelude.{◌≡◌, ◌+◌, ◌<◌, ◌^◌, ◌⊎◌, ◌≤◌, ◌∷◌, [], ◌++◌, List, ℕ, length, take, get_or, Some, Err, IfOk, IfErr};
 ghost use Rattle.dav_xml.specs.Parts.{StepAt};
 ghost use Rattle.dav_xml.specs.Stands.{stack_of};
 ghost use Rattle.dav_doc.specs.Document as document;
 ghost use Rattle.dav_doc.specs.Document.{Forest, IsDocument, events};
 ghost use Rattle.dav_xml.specs.Ending.{is_over as is_over_lem, is_whole as is_whole_lem};
 ghost use Rattle.dav_xml.specs.Events.{lent_in, later_in, event_in};
+ghost use Rattle.dav_xml.specs.Ahead.{IsAhead};
+ghost use Rattle.dav_markup.specs.Owing.{owed_in};
 ghost use Rattle.dav_xml.specs.Read.{HasRead, Feeds, Advances, Stops, Fails, lent};
 
+use crate::ahead::Ahead;
 use crate::event::{Event, Lent};
 use crate::fault::XmlFault;
 use crate::limit::limit_of;
@@ -16,7 +19,8 @@ use crate::turn::{Turn, size_at, take_step};
 use dav_markup::character::Owed;
 use dav_markup::outer::Outer;
 use dav_markup::scope::Open;
-use dav_text::Memory;
+use dav_markup::stretch::Stretch;
+use dav_text::{Blob, Memory};
 use std::alloc::Global;
 use std::mem;
 
@@ -144,6 +148,90 @@ impl Scan {
         Ok(())
     }
 
+    /// Takes the first of the bytes.
+    fn take_byte(&mut self, bytes: &[u8]) -> Result<usize, XmlFault>
+        requires room { self.old.at + length bytes.now < 2 ^ 64 }
+        requires some { 0 < length bytes.now }
+        requires quiet { self.old.lent ≡ Lent.Nothing }
+        ensures goes { (text : List ℕ) (given : List document.Event) → HasRead self.old text given
+            → IfOk result (λ used. HasRead self.new (text ++ take used bytes.now) (given ++ lent_in self.new.lent)) }
+        ensures stops { (text : List ℕ) (given : List document.Event) → HasRead self.old text given
+            → IfErr result (λ fault. (fault ≡ XmlFault.Memory) ⊎ Fails text given (get_or bytes.now 0 0) fault) }
+        ensures at { IfOk result (λ used. self.new.at ≡ self.old.at + used) }
+        ensures used { IfOk result (λ used. (0 < used) × (used ≤ length bytes.now)) }
+    {
+        match self.take(bytes[0]) {
+            Ok(()) => Ok(1),
+            Err(fault) => Err(fault),
+        }
+    }
+
+    /// Takes text of an element.
+    fn take_text(&mut self, bytes: &[u8], stretch: Stretch) -> Result<usize, XmlFault>
+        requires room { self.old.at + length bytes.now < 2 ^ 64 }
+        requires ahead { IsAhead self.old.position self.old.opens.items self.old.size (owed_in self.old.owed) bytes.now (Ahead.Text stretch) }
+        requires quiet { self.old.lent ≡ Lent.Nothing }
+        ensures goes { (text : List ℕ) (given : List document.Event) → HasRead self.old text given
+            → IfOk result (λ used. HasRead self.new (text ++ take used bytes.now) (given ++ lent_in self.new.lent)) }
+        ensures stops { (text : List ℕ) (given : List document.Event) → HasRead self.old text given
+            → IfErr result (λ fault. (fault ≡ XmlFault.Memory) ⊎ Fails text given (get_or bytes.now 0 0) fault) }
+        ensures at { IfOk result (λ used. self.new.at ≡ self.old.at + used) }
+        ensures used { IfOk result (λ used. (0 < used) × (used ≤ length bytes.now)) }
+    {
+        let Ok(copy) = Blob::copy_of(self.alloc, &bytes[..stretch.len]) else {
+            return Err(XmlFault::Memory);
+        };
+        self.lent = Lent::Run(copy);
+        self.owed = stretch.owed;
+        self.at += stretch.len as u64;
+        Ok(stretch.len)
+    }
+
+    /// Takes more of a name of a start tag or an end tag.
+    fn take_name(&mut self, bytes: &[u8], stretch: Stretch) -> Result<usize, XmlFault>
+        requires room { self.old.at + length bytes.now < 2 ^ 64 }
+        requires ahead { IsAhead self.old.position self.old.opens.items self.old.size (owed_in self.old.owed) bytes.now (Ahead.Name stretch) }
+        requires quiet { self.old.lent ≡ Lent.Nothing }
+        ensures goes { (text : List ℕ) (given : List document.Event) → HasRead self.old text given
+            → IfOk result (λ used. HasRead self.new (text ++ take used bytes.now) (given ++ lent_in self.new.lent)) }
+        ensures stops { (text : List ℕ) (given : List document.Event) → HasRead self.old text given
+            → IfErr result (λ fault. (fault ≡ XmlFault.Memory) ⊎ Fails text given (get_or bytes.now 0 0) fault) }
+        ensures at { IfOk result (λ used. self.new.at ≡ self.old.at + used) }
+        ensures used { IfOk result (λ used. (0 < used) × (used ≤ length bytes.now)) }
+    {
+        let position = mem::replace(&mut self.position, Position::Return);
+        let Ok(position) = position.longer(&bytes[..stretch.len]) else {
+            return Err(XmlFault::Memory);
+        };
+        self.position = position;
+        self.owed = stretch.owed;
+        self.size += stretch.len as u32;
+        self.at += stretch.len as u64;
+        Ok(stretch.len)
+    }
+
+    /// Takes the longest stretch of the bytes that leads on alike, or one byte. How many it took.
+    fn advance(&mut self, bytes: &[u8]) -> Result<usize, XmlFault>
+        requires room { self.old.at + length bytes.now < 2 ^ 64 }
+        requires some { 0 < length bytes.now }
+        requires quiet { self.old.lent ≡ Lent.Nothing }
+        ensures goes { (text : List ℕ) (given : List document.Event) → HasRead self.old text given
+            → IfOk result (λ used. HasRead self.new (text ++ take used bytes.now) (given ++ lent_in self.new.lent)) }
+        ensures stops { (text : List ℕ) (given : List document.Event) → HasRead self.old text given
+            → IfErr result (λ fault. (fault ≡ XmlFault.Memory) ⊎ Fails text given (get_or bytes.now 0 0) fault) }
+        ensures at { IfOk result (λ used. self.new.at ≡ self.old.at + used) }
+        ensures used { IfOk result (λ used. (0 < used) × (used ≤ length bytes.now)) }
+    {
+        match self
+            .position
+            .ahead(&self.opens, self.owed, self.size, bytes)
+        {
+            Ahead::Byte => self.take_byte(bytes),
+            Ahead::Text(stretch) => self.take_text(bytes, stretch),
+            Ahead::Name(stretch) => self.take_name(bytes, stretch),
+        }
+    }
+
     /// Takes bytes of the piece up to the first event, which is then ready. Where none is ready the
     /// whole piece was taken; where one is ready and no byte was taken, it is the end of the empty
     /// element whose start was ready before. So the calls for a piece come to an end. The document is
@@ -173,26 +261,21 @@ impl Scan {
                 ready: true,
             });
         }
-        for (index, byte) in piece.iter().enumerate() {
-            match self.take(*byte) {
-                Ok(()) => {}
+        self.lent = Lent::Nothing;
+        let mut used = 0;
+        while used < piece.len() {
+            match self.advance(&piece[used..]) {
+                Ok(count) => used += count,
                 Err(fault) => {
                     self.fault = Some(fault);
                     return Err(fault);
                 }
             }
             if self.lent.is_ready() {
-                return Ok(Fed {
-                    used: index + 1,
-                    ready: true,
-                });
+                return Ok(Fed { used, ready: true });
             }
         }
-        self.lent = Lent::Nothing;
-        Ok(Fed {
-            used: piece.len(),
-            ready: false,
-        })
+        Ok(Fed { used, ready: false })
     }
 
     /// The event that is ready. Text without a byte where none is.

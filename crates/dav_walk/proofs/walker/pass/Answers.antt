@@ -1,7 +1,5 @@
-use Rattle.std.proofs.Common.{◌≡◌, ℕ, ◌-◌, take, drop, length, ◌⊎◌, inl, inr, Bool, true, false, List, [], Ok, refl, sym, ap, ◌∙◌, subst}
-use Rattle.std.specs.Prelude.{not}
+use Rattle.std.proofs.Common.{◌≡◌, ℕ, ◌-◌, take, drop, length, inl, inr, List, [], Ok, sym, ap, subst}
 use Rattle.dav_doc.specs.Document.{Event}
-use Rattle.dav_xml.specs.declared.fault.XmlFault.TheVariants as xml
 use Rattle.dav_walk.specs.declared.handler.Next.TheVariants.{Go, Stop}
 use Rattle.dav_walk.specs.declared.fault.WalkFault.{WalkFault}
 use Rattle.dav_walk.specs.Lending.{LentAll, LentToStop}

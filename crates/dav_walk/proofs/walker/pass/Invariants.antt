@@ -1,10 +1,9 @@
-use Rattle.std.proofs.Common.{◌≡◌, ℕ, ◌+◌, ◌*◌, ◌<◌, ◌^◌, List, length}
-use Rattle.dav_doc.specs.Document.{Event}
-use Rattle.dav_xml.specs.Read.{HasRead, waiting}
+use Rattle.std.proofs.Common.{ℕ, ◌+◌, ◌*◌, List, length}
+use Rattle.dav_xml.specs.Read.{waiting}
 use Rattle.dav_walk.specs.declared.root.Root.{Root}
 use Rattle.dav_walk.specs.Lending.{Response}
 use Rattle.dav_walk.specs.Collecting.{gathering_of}
-use Rattle.dav_walk.specs.Walking.{IsReading, Stands}
+use Rattle.dav_walk.specs.Walking.{Stands}
 use Rattle.dav_walk.proofs.Midway.{Midway, IsIn}
 use Rattle.dav_walk.proofs.walker.pass.Given as goal
 

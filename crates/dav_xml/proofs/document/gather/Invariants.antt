@@ -1,4 +1,4 @@
-use Rattle.std.proofs.Common.{ℕ, ◌+◌, ◌*◌, length}
+use Rattle.std.proofs.Common.{◌+◌, ◌*◌, length}
 use Rattle.dav_xml.specs.Read.{waiting}
 use Rattle.dav_xml.proofs.GatherLemmas.{Midway}
 use Rattle.dav_xml.proofs.document.gather.Given as goal

@@ -1,5 +1,4 @@
-use Rattle.std.proofs.Common.{◌≡◌, Ok, sym, ap, ◌∙◌, subst}
-use Rattle.dav_walk.specs.declared.walker.State.TheVariants.{Going, Stopped}
+use Rattle.std.proofs.Common.{Ok, sym, ap, ◌∙◌, subst}
 use Rattle.dav_walk.specs.Collecting.{gathering_of}
 use Rattle.dav_walk.specs.Walking.{of_xml}
 use Rattle.dav_walk.specs.WalkerView.{Walking, HasWalked, HasStopped, Finishes}

@@ -1,5 +1,4 @@
-use Rattle.std.proofs.Common.{◌≡◌, ℕ, ◌+◌, ◌<◌, length, Ok, Err, refl, sym, ap, ◌∙◌, subst}
-use Rattle.dav_walk.specs.declared.root.Root.{Root}
+use Rattle.std.proofs.Common.{◌≡◌, ◌+◌, ◌<◌, length, Ok, Err, refl, sym, ap, ◌∙◌, subst}
 use Rattle.dav_walk.specs.declared.walker.Walk.TheVariants as walks
 use Rattle.dav_walk.specs.declared.walker.State.TheVariants.{Going, Stopped, Failed}
 use Rattle.dav_walk.specs.Collecting.{gathering_of}
