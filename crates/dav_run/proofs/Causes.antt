@@ -125,7 +125,7 @@ module _ {D : Type 0} (view : DiskView D) where
     disk = λ is. then_rose (view.faults x.recorder.disk) (view.faults y.recorder.disk) (view.faults z.recorder.disk) less (one.disk is);
     damage = λ other.
         let d = one.damage other in
-        record { flight = d.flight; cause = fetch_wider (view.honest z.recorder.disk) d.flight.body (view.seen z.recorder.disk d.flight.body.file) (view.faults x.recorder.disk) (view.faults y.recorder.disk) (view.faults z.recorder.disk) fault less d.cause };
+        record { body = d.body; cause = fetch_wider (view.honest z.recorder.disk) d.body (view.seen z.recorder.disk d.body.file) (view.faults x.recorder.disk) (view.faults y.recorder.disk) (view.faults z.recorder.disk) fault less d.cause };
   }
 
   -- a desk that died of it has its cause
@@ -133,11 +133,11 @@ module _ {D : Type 0} (view : DiskView D) where
   died_of e x y fault one = elim one.cause [
     | inl failed ↦ record { disk = λ is. failed.1; damage = λ other. absurd (other failed.0) }
     | inr unread_ ↦ record {
-      disk = λ is. subst (IsFetchFault (view.honest y.recorder.disk) unread_.flight.body (view.seen x.recorder.disk unread_.flight.body.file) (view.faults x.recorder.disk) (view.faults y.recorder.disk)) is unread_.cause;
+      disk = λ is. subst (IsFetchFault (view.honest y.recorder.disk) unread_.body (view.seen x.recorder.disk unread_.body.file) (view.faults x.recorder.disk) (view.faults y.recorder.disk)) is unread_.cause;
       damage = λ other. record {
-        flight = unread_.flight;
-        cause = fetch_later (view.honest y.recorder.disk) unread_.flight.body (view.seen x.recorder.disk unread_.flight.body.file) (view.seen y.recorder.disk unread_.flight.body.file) (view.faults x.recorder.disk) (view.faults y.recorder.disk) fault
-            (λ h. unread_.files h unread_.flight.body.file) unread_.cause;
+        body = unread_.body;
+        cause = fetch_later (view.honest y.recorder.disk) unread_.body (view.seen x.recorder.disk unread_.body.file) (view.seen y.recorder.disk unread_.body.file) (view.faults x.recorder.disk) (view.faults y.recorder.disk) fault
+            (λ h. unread_.files h unread_.body.file) unread_.cause;
       };
     }
   ]
@@ -550,8 +550,8 @@ module _ {D : Type 0} (view : DiskView D) (words : List (List ℕ)) (bytes : Lis
       let d = (started_died fault cause.0).damage cause.1.0 in
       subst (λ (x : D). IsDamage (view.honest x) (view.seen x) (view.faults disk_old) (view.faults x) fault) (sym ran.disk)
       (record {
-        flight = d.flight;
-        cause = fetch_wider (view.honest ran.last.recorder.disk) d.flight.body (view.seen ran.last.recorder.disk d.flight.body.file) (view.faults disk_old) (view.faults ran.first.recorder.disk) (view.faults ran.last.recorder.disk) fault ran.start.no_fewer d.cause;
+        body = d.body;
+        cause = fetch_wider (view.honest ran.last.recorder.disk) d.body (view.seen ran.last.recorder.disk d.body.file) (view.faults disk_old) (view.faults ran.first.recorder.disk) (view.faults ran.last.recorder.disk) fault ran.start.no_fewer d.cause;
       })
 
   started_index : view.honest disk_new → HasIndex words (view.seen disk_old 0)

@@ -6,7 +6,7 @@ use Rattle.dav_text.specs.Path.{PathParts}
 use Rattle.dav_recorder.specs.Opening.{IsFetchFault, IsStartFault, IsIndexOf}
 use Rattle.dav_recorder.specs.Survives.{with_under}
 use Rattle.dav_deeds.specs.DeskTable.{started}
-use Rattle.dav_deeds.specs.declared.answer.Flight.{Flight}
+use Rattle.dav_store.specs.declared.body_id.BodyId.{BodyId}
 use Rattle.dav_deeds.specs.declared.deed.Step.{Step}
 use Rattle.dav_deeds.specs.declared.fault.DeskFault.{DeskFault}
 use Rattle.dav_index.specs.declared.table.Table.{Table}
@@ -51,8 +51,8 @@ pub record Headline (source_old source_new up_old up_new : DeviceLog) (past : �
 
 -- the bytes of a body that was to be sent were found to be others
 pub record IsDamage (honest : Type 0) (seen : ℕ → List ℕ) (before now : ℕ) (fault : DeskFault) : Type 0 where
-  pub flight : Flight
-  pub cause : IsFetchFault honest flight.body (seen flight.body.file) before now fault
+  pub body : BodyId
+  pub cause : IsFetchFault honest body (seen body.file) before now fault
 
 -- why there was no cache for a run with these words: its index is none for the base, or a body is damaged
 abbrev pub IsCacheCause : Type 0 → List (List ℕ) → (ℕ → List ℕ) → (ℕ → List ℕ) → ℕ → ℕ → DeskFault → Type 0
