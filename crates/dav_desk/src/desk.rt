@@ -66,13 +66,7 @@ fn slots(told: &Option<Told>) -> usize
     ensures { result ≡ slots_lem told.now }
 {
     match told {
-        Some(told) => {
-            if told.is_end() {
-                1
-            } else {
-                2
-            }
-        }
+        Some(told) => { if told.is_end() { 1 } else { 2 } }
         None => 2,
     }
 }
